@@ -1,0 +1,37 @@
+-- Document 01, One step and Forecast: what flows into an element, and rule 16 for it.
+use Prim.Native.Nat.{ℕ, _+_, _*_, _/_}
+use mathlib.Core.Bool.{cond}
+use mathlib.Core.List.{[], _∷_}
+use lib.Dec.{eqb}
+use Rattle.refusal.specs.Answers.{Answer}
+use Rattle.units.specs.Ceiling.{underCeiling}
+use Rattle.method.specs.declared.Figures.{Figures}
+use Rattle.method.specs.Figures.{estimate, figures}
+
+-- One step: "Basin inflow: [5 × rain × area × f / 18], margin 1, inflow variance 0 with margin 0."
+unfoldable pub stepInflow : ℕ → ℕ → ℕ → Figures
+stepInflow rain area f = figures (estimate (5 * rain * area * f / 18) 1) (estimate 0 0)
+
+-- One step: "Reach inflow, margin, variance and variance margin: the sums of the new ones of all elements draining into it,
+-- 0 if none."
+unfoldable pub noInflow : Figures
+noInflow = figures (estimate 0 0) (estimate 0 0)
+
+unfoldable pub joinedInflow : Figures → Figures → Figures
+joinedInflow x y =
+    figures
+    (estimate (x .discharge .0 + y .discharge .0) (x .«discharge_margin» .0 + y .«discharge_margin» .0))
+    (estimate (x .variance .0 + y .variance .0) (x .«variance_margin» .0 + y .«variance_margin» .0))
+
+-- Forecast: "Basin inflow is [5 × s × area × f / (18 × c)] .. where c is 0 the inflow is 0"
+unfoldable pub meanRainInflow : ℕ → ℕ → ℕ → ℕ → ℕ
+meanRainInflow s c area f = cond (eqb c 0) 0 (5 * s * area * f / (18 * c))
+
+-- ".. margin 1 .. Its variance at the first lead is G, at the second 2 × G and so on, margin 0."
+unfoldable pub forecastInflow : ℕ → ℕ → ℕ → ℕ → ℕ → ℕ → Figures
+forecastInflow s c area f lead G = figures (estimate (meanRainInflow s c area f) 1) (estimate (lead * G) 0)
+
+-- rule 16: "Some inflow, inflow variance .. or the margin of any of these .. would pass C"
+unfoldable pub judgedInflow : Figures → Answer Figures
+judgedInflow i =
+    underCeiling (i .discharge .0 ∷ i .«discharge_margin» .0 ∷ i .variance .0 ∷ i .«variance_margin» .0 ∷ []) i

@@ -1,0 +1,44 @@
+-- Document 01, One step: the discharge and the variance of an element after the step, before a reading.
+use Prim.Native.Nat.{ℕ, _+_, _-_}
+use mathlib.Core.List.{List, [], _∷_}
+use Rattle.refusal.specs.Answers.{Answer}
+use Rattle.units.specs.Units.{S}
+use Rattle.units.specs.Ceiling.{underCeiling}
+use Rattle.method.specs.declared.Estimate.{Estimate}
+use Rattle.method.specs.declared.Figures.{Figures}
+use Rattle.method.specs.Figures.{estimate, discharge, variance, figures}
+use Rattle.method.specs.Blend.{blended}
+
+-- "Discharge: blend of old discharge and inflow by H, weight margin 3."
+unfoldable pub routedDischarge : ℕ → Figures → Figures → Estimate
+routedDischarge H inflow old = blended H 3 (discharge old) (discharge inflow)
+
+-- "Variance: a blends old variance with 0 (margin 0) by H"
+unfoldable pub keptVariance : ℕ → Estimate → Estimate
+keptVariance H old = blended H 3 old (estimate 0 0)
+
+-- "b blends inflow variance with 0 by S − H"
+unfoldable pub broughtVariance : ℕ → Estimate → Estimate
+broughtVariance H inflow = blended (S - H) 3 inflow (estimate 0 0)
+
+-- "then a and b blend by H, all with weight margin 3, and W is added to the value"
+unfoldable pub routedVariance : ℕ → ℕ → Estimate → Estimate → Estimate
+routedVariance H W inflow old =
+    let v : Estimate = blended H 3 (keptVariance H old) (broughtVariance H inflow) in
+    estimate (v .value + W) (v .margin)
+
+unfoldable pub routed : ℕ → ℕ → Figures → Figures → Figures
+routed H W inflow old =
+    figures (routedDischarge H inflow old) (routedVariance H W (variance inflow) (variance old))
+
+-- rule 16: "Some .. variance .. or the margin of any of these or of a blend on the way, would pass C"
+unfoldable pub judgedVariance : ℕ → ℕ → Estimate → Estimate → List ℕ
+judgedVariance H W inflow old =
+    let v : Estimate = routedVariance H W inflow old in
+    keptVariance H old .margin ∷ broughtVariance H inflow .margin ∷ v .margin ∷ v .value ∷ []
+
+-- and the discharge with its margin
+unfoldable pub routingAnswer : ℕ → ℕ → Figures → Figures → Answer Figures
+routingAnswer H W inflow old =
+    let q : Estimate = routedDischarge H inflow old in
+    underCeiling (q .value ∷ q .margin ∷ judgedVariance H W (variance inflow) (variance old)) (routed H W inflow old)

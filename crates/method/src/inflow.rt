@@ -1,0 +1,56 @@
+ghost use mathlib.Core.Path.{_≡_};
+ghost use Prim.Native.Nat.{_≤_};
+ghost use Rattle.method.specs.Answers.{figuresAnswer};
+ghost use Rattle.method.specs.Bounds.{AnsweredFiguresFit};
+ghost use Rattle.method.specs.Inflow.{meanRainInflow, stepInflow, forecastInflow, judgedInflow};
+use crate::Estimate;
+use crate::Figures;
+use crate::FiguresAnswer;
+
+// The inflow of a basin in one step, from its rain, area and runoff.
+pub fn step_inflow(rain: u64, area: u64, runoff: u64) -> FiguresAnswer
+    requires { ⌜ (rain ≤ 3000) × ((area ≤ 400000) × (runoff ≤ 1000)) ⌝ }
+    ensures { λ r. ⌜ (figuresAnswer r ≡ judgedInflow (stepInflow rain area runoff)) × AnsweredFiguresFit r ⌝ }
+{
+    let value = 5 * rain * area * runoff / 18;
+    Figures::new(
+        Estimate { value, margin: 1 },
+        Estimate {
+            value: 0,
+            margin: 0,
+        },
+    )
+}
+
+// The inflow of a basin at a lead, by the mean of its last rains.
+fn mean_rain_inflow(sum: u64, count: u64, area: u64, runoff: u64) -> u64
+    requires { ⌜ (sum ≤ 9000) × ((count ≤ 3) × ((area ≤ 400000) × (runoff ≤ 1000))) ⌝ }
+    ensures { λ r. ⌜ r ≡ meanRainInflow sum count area runoff ⌝ }
+{
+    if count == 0 {
+        return 0;
+    }
+    5 * sum * area * runoff / (18 * count)
+}
+
+// The inflow of a basin at a lead: sum and count of its last rains, area, runoff, and its rain noise.
+pub fn forecast_inflow(
+    sum: u64,
+    count: u64,
+    area: u64,
+    runoff: u64,
+    lead: u64,
+    noise: u64,
+) -> FiguresAnswer
+    requires { ⌜ ((sum ≤ 9000) × ((count ≤ 3) × ((area ≤ 400000) × (runoff ≤ 1000)))) × ((lead ≤ 12) × (noise ≤ 100000000)) ⌝ }
+    ensures { λ r. ⌜ (figuresAnswer r ≡ judgedInflow (forecastInflow sum count area runoff lead noise)) × AnsweredFiguresFit r ⌝ }
+{
+    let value = mean_rain_inflow(sum, count, area, runoff);
+    Figures::new(
+        Estimate { value, margin: 1 },
+        Estimate {
+            value: lead * noise,
+            margin: 0,
+        },
+    )
+}

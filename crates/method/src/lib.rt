@@ -1,0 +1,92 @@
+ghost use mathlib.Core.Path.{_≡_};
+ghost use Rattle.method.specs.Figures.{discharge, variance, figures};
+ghost use Rattle.method.specs.Answers.{figuresAnswer};
+ghost use Rattle.method.specs.Bounds.{AnsweredFiguresFit};
+ghost use Rattle.method.specs.Inflow.{judgedInflow};
+use refusal::Refusal;
+use units::Discharge;
+use units::DischargeAnswer;
+use units::Variance;
+use units::VarianceAnswer;
+
+pub mod weight; // weight.rt: the series weight H of an element
+pub mod blend; // blend.rt: the blend of two estimates by a weight
+pub mod rating; // rating.rt: from a stage to a discharge
+pub mod inflow; // inflow.rt: the inflow of a basin from rain
+pub mod routing; // routing.rt: the move of one element
+pub mod correction; // correction.rt: the correction of one element by a reading
+
+// S: weights are whole numbers 0 to S.
+pub const SCALE: u64 = 1_000_000_000;
+
+// A number with its margin.
+pub struct Estimate {
+    pub value: u64,
+    pub margin: u64,
+}
+
+pub enum EstimateAnswer {
+    Accepted(Estimate),
+    Refused(Refusal),
+}
+
+// What an element holds or takes in: discharge and variance, each with its margin.
+pub struct Figures {
+    pub discharge: Discharge,
+    pub discharge_margin: Discharge,
+    pub variance: Variance,
+    pub variance_margin: Variance,
+}
+
+pub enum FiguresAnswer {
+    Accepted(Figures),
+    Refused(Refusal),
+}
+
+impl Figures {
+    // The figures of an inflow, or the refusal of one that passes the ceiling.
+    pub fn new(q: Estimate, v: Estimate) -> FiguresAnswer
+        ensures { λ r. ⌜ (figuresAnswer r ≡ judgedInflow (figures q v)) × AnsweredFiguresFit r ⌝ }
+    {
+        let DischargeAnswer::Accepted(discharge) = Discharge::new(q.value) else {
+            return FiguresAnswer::Refused(Refusal::AboveCeiling);
+        };
+        let DischargeAnswer::Accepted(discharge_margin) = Discharge::new(q.margin) else {
+            return FiguresAnswer::Refused(Refusal::AboveCeiling);
+        };
+        let VarianceAnswer::Accepted(variance) = Variance::new(v.value) else {
+            return FiguresAnswer::Refused(Refusal::AboveCeiling);
+        };
+        let VarianceAnswer::Accepted(variance_margin) = Variance::new(v.margin) else {
+            return FiguresAnswer::Refused(Refusal::AboveCeiling);
+        };
+        FiguresAnswer::Accepted(Figures {
+            discharge,
+            discharge_margin,
+            variance,
+            variance_margin,
+        })
+    }
+
+    pub fn discharge_estimate(self) -> Estimate
+        ensures { λ r. ⌜ r ≡ discharge self ⌝ }
+    {
+        let value = self.discharge;
+        let margin = self.discharge_margin;
+        Estimate {
+            value: value.0,
+            margin: margin.0,
+        }
+    }
+
+    pub fn variance_estimate(self) -> Estimate
+        ensures { λ r. ⌜ r ≡ variance self ⌝ }
+    {
+        let value = self.variance;
+        let margin = self.variance_margin;
+        Estimate {
+            value: value.0,
+            margin: margin.0,
+        }
+    }
+}

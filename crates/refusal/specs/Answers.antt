@@ -1,0 +1,11 @@
+-- What a call answers, whatever enum the code answers it with: its values, or document 01's number for no.
+use Prim.Native.Nat.{ℕ}
+
+pub data Answer (A : Type 0) : Type 0 where
+  accepted : A → Answer A
+  refused : ℕ → Answer A
+
+-- a second answer that is worked out from the values of a first; the first refusal stands
+abbrev pub andThen : {A B : Type 0} → Answer A → (A → Answer B) → Answer B
+andThen (accepted a) f = f a
+andThen (refused n) f = refused n

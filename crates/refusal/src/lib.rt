@@ -1,0 +1,48 @@
+ghost use mathlib.Core.Path.{_≡_};
+ghost use Rattle.refusal.specs.Refusals.{number};
+
+// Document 01, Numbers for no: one refusal for each number, in checking order.
+pub enum Refusal {
+    TableLength,
+    TableVersion,
+    TableCounts,
+    TableSize,
+    ElementField,
+    ElementDown,
+    GaugeField,
+    StateRange,
+    StepLimit,
+    RecordLength,
+    RecordVersion,
+    RainRange,
+    StageRange,
+    ReadingRange,
+    AnswerSpace,
+    AboveCeiling,
+}
+
+impl Refusal {
+    // The document's number.
+    pub fn code(self) -> u64
+        ensures { λ r. ⌜ r ≡ number self ⌝ }
+    {
+        match self {
+            Refusal::TableLength => 1,
+            Refusal::TableVersion => 2,
+            Refusal::TableCounts => 3,
+            Refusal::TableSize => 4,
+            Refusal::ElementField => 5,
+            Refusal::ElementDown => 6,
+            Refusal::GaugeField => 7,
+            Refusal::StateRange => 8,
+            Refusal::StepLimit => 9,
+            Refusal::RecordLength => 10,
+            Refusal::RecordVersion => 11,
+            Refusal::RainRange => 12,
+            Refusal::StageRange => 13,
+            Refusal::ReadingRange => 14,
+            Refusal::AnswerSpace => 15,
+            Refusal::AboveCeiling => 16,
+        }
+    }
+}
