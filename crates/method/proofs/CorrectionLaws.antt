@@ -8,9 +8,10 @@ use Rattle.refusal.specs.Answers.{accepted, refused}
 use Rattle.units.specs.Units.{C, S}
 use Rattle.units.proofs.CeilingLaws.{passes, stays, none-left}
 use Rattle.method.specs.declared.Figures.{Figures}
-use Rattle.method.specs.declared.Estimate.{Estimate}
-use Rattle.method.specs.Figures.{estimate, discharge, variance, figures}
-use Rattle.method.specs.Blend.{blended}
+use Rattle.weighting.specs.declared.Estimate.{Estimate}
+use Rattle.weighting.specs.Estimates.{estimate}
+use Rattle.method.specs.Figures.{discharge, variance, figures}
+use Rattle.weighting.specs.Blend.{blended}
 use Rattle.method.specs.Correction.{gain, gainMargin, correctedDischarge, correctedVariance, corrected, correctionAnswer}
 
 -- a part of a number is at most the number

@@ -1,7 +1,7 @@
 -- Figures under the ceiling, as estimates.
 use Rattle.method.specs.declared.Figures.{Figures}
-use Rattle.method.specs.Figures.{discharge, variance}
-use Rattle.method.specs.Bounds.{EstimateFits, FiguresFit}
+use Rattle.weighting.specs.Estimates.{EstimateFits}
+use Rattle.method.specs.Figures.{discharge, variance, FiguresFit}
 
 pub discharge-fits : {f : Figures} → FiguresFit f → EstimateFits (discharge f)
 discharge-fits h = record { value = h .discharge; margin = h .dischargeMargin }

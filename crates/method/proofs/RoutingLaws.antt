@@ -6,12 +6,13 @@ use Rattle.refusal.specs.Answers.{Answer, accepted, refused}
 use Rattle.units.specs.Units.{C, S}
 use Rattle.units.specs.Ceiling.{underCeiling}
 use Rattle.units.proofs.CeilingLaws.{passes, stays, none-left, same-refused, same-accepted}
-use Rattle.method.specs.declared.Estimate.{Estimate}
+use Rattle.weighting.specs.declared.Estimate.{Estimate}
 use Rattle.method.specs.declared.Figures.{Figures}
-use Rattle.method.specs.Figures.{estimate, discharge, variance, figures}
-use Rattle.method.specs.Blend.{blended}
+use Rattle.weighting.specs.Estimates.{estimate}
+use Rattle.method.specs.Figures.{discharge, variance, figures}
+use Rattle.weighting.specs.Blend.{blended}
 use Rattle.method.specs.Routing.{routedDischarge, keptVariance, broughtVariance, routedVariance, routed, judgedVariance, routingAnswer}
-use Rattle.method.proofs.BlendLaws.{value-le}
+use Rattle.weighting.proofs.BlendLaws.{value-le}
 
 -- the answer of the variance's move
 abbrev pub varianceAnswer : ℕ → ℕ → Estimate → Estimate → Answer Estimate

@@ -4,10 +4,11 @@ use mathlib.Core.List.{[], _∷_}
 use Rattle.refusal.specs.Answers.{Answer}
 use Rattle.units.specs.Units.{S}
 use Rattle.units.specs.Ceiling.{underCeiling}
-use Rattle.method.specs.declared.Estimate.{Estimate}
+use Rattle.weighting.specs.declared.Estimate.{Estimate}
 use Rattle.method.specs.declared.Figures.{Figures}
-use Rattle.method.specs.Figures.{estimate, discharge, variance, figures}
-use Rattle.method.specs.Blend.{blended}
+use Rattle.weighting.specs.Estimates.{estimate}
+use Rattle.method.specs.Figures.{discharge, variance, figures}
+use Rattle.weighting.specs.Blend.{blended}
 
 -- "Gain K = [S P / (P + R)]", P being the variance
 unfoldable pub gain : ℕ → ℕ → ℕ

@@ -1,12 +1,14 @@
--- The four figures of an element or of an inflow, read as two numbers with their margins.
-use Prim.Native.Nat.{ℕ}
-use Rattle.units.specs.Units.{grains, thousandths}
-use Rattle.method.specs.declared.Estimate.{Estimate}
+-- The four figures of an element or of an inflow: discharge and variance, each with its margin.
+use Prim.{Unit}
+use Prim.Native.Nat.{_≤_}
+use Rattle.refusal.specs.Refusals.{number}
+use Rattle.refusal.specs.Answers.{Answer, accepted, refused}
+use Rattle.units.specs.Units.{C, grains, thousandths}
+use Rattle.weighting.specs.declared.Estimate.{Estimate}
+use Rattle.weighting.specs.Estimates.{estimate}
 use Rattle.method.specs.declared.Figures.{Figures}
-
--- a number with a margin
-abbrev pub estimate : ℕ → ℕ → Estimate
-estimate n e = record { value = n; margin = e }
+use Rattle.method.specs.declared.FiguresAnswer.{FiguresAnswer}
+use Rattle.method.specs.declared.FiguresAnswer.the-variants.{Accepted, Refused}
 
 abbrev pub discharge : Figures → Estimate
 discharge f = estimate (f .discharge .0) (f .«discharge_margin» .0)
@@ -22,3 +24,19 @@ figures q v =
       variance = thousandths (v .value);
       «variance_margin» = thousandths (v .margin);
     }
+
+-- the number and the values of each case of an answer
+abbrev pub figuresAnswer : FiguresAnswer → Answer Figures
+figuresAnswer (Accepted f) = accepted f
+figuresAnswer (Refused r) = refused (number r)
+
+-- what callers may rely on: no number passes the ceiling
+pub record FiguresFit (f : Figures) : Type 0 where
+  pub discharge : f .discharge .0 ≤ C
+  pub dischargeMargin : f .«discharge_margin» .0 ≤ C
+  pub variance : f .variance .0 ≤ C
+  pub varianceMargin : f .«variance_margin» .0 ≤ C
+
+unfoldable pub AnsweredFiguresFit : FiguresAnswer → Type 0
+AnsweredFiguresFit (Accepted f) = FiguresFit f
+AnsweredFiguresFit (Refused r) = Unit

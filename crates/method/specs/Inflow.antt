@@ -6,7 +6,8 @@ use lib.Dec.{eqb}
 use Rattle.refusal.specs.Answers.{Answer}
 use Rattle.units.specs.Ceiling.{underCeiling}
 use Rattle.method.specs.declared.Figures.{Figures}
-use Rattle.method.specs.Figures.{estimate, figures}
+use Rattle.weighting.specs.Estimates.{estimate}
+use Rattle.method.specs.Figures.{figures}
 
 -- One step: "Basin inflow: [5 × rain × area × f / 18], margin 1, inflow variance 0 with margin 0."
 unfoldable pub stepInflow : ℕ → ℕ → ℕ → Figures

@@ -1,9 +1,4 @@
 pub mod Figures
-pub mod Answers
-pub mod Bounds
-pub mod Weight
-pub mod Blend
 pub mod Inflow
 pub mod Routing
-pub mod Rating
 pub mod Correction

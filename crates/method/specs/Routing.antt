@@ -4,10 +4,11 @@ use mathlib.Core.List.{List, [], _∷_}
 use Rattle.refusal.specs.Answers.{Answer}
 use Rattle.units.specs.Units.{S}
 use Rattle.units.specs.Ceiling.{underCeiling}
-use Rattle.method.specs.declared.Estimate.{Estimate}
+use Rattle.weighting.specs.declared.Estimate.{Estimate}
 use Rattle.method.specs.declared.Figures.{Figures}
-use Rattle.method.specs.Figures.{estimate, discharge, variance, figures}
-use Rattle.method.specs.Blend.{blended}
+use Rattle.weighting.specs.Estimates.{estimate}
+use Rattle.method.specs.Figures.{discharge, variance, figures}
+use Rattle.weighting.specs.Blend.{blended}
 
 -- "Discharge: blend of old discharge and inflow by H, weight margin 3."
 unfoldable pub routedDischarge : ℕ → Figures → Figures → Estimate

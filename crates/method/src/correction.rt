@@ -1,19 +1,19 @@
 ghost use mathlib.Core.Path.{_≡_};
 ghost use Prim.Native.Nat.{_≤_};
 ghost use Rattle.units.specs.Units.{C, S};
-ghost use Rattle.method.specs.Answers.{figuresAnswer};
-ghost use Rattle.method.specs.Bounds.{EstimateFits, FiguresFit, AnsweredFiguresFit};
+ghost use Rattle.weighting.specs.Estimates.{EstimateFits};
+ghost use Rattle.method.specs.Figures.{figuresAnswer, FiguresFit, AnsweredFiguresFit};
 ghost use Rattle.method.specs.Correction.{gain, gainMargin, correctedVariance, correctionAnswer};
-use crate::Estimate;
-use crate::EstimateAnswer;
 use crate::Figures;
 use crate::FiguresAnswer;
-use crate::SCALE;
-use crate::blend::blend;
 use refusal::Refusal;
 use units::Discharge;
 use units::Variance;
 use units::VarianceAnswer;
+use weighting::Estimate;
+use weighting::EstimateAnswer;
+use weighting::SCALE;
+use weighting::blend::blend;
 
 // The gain of a reading over the element's own discharge, out of S.
 fn gain_of(noise: u64, variance: u64) -> u64

@@ -1,11 +1,10 @@
 ghost use mathlib.Core.Path.{_≡_};
 ghost use Prim.Native.Nat.{_≤_};
-ghost use Rattle.method.specs.Answers.{figuresAnswer};
-ghost use Rattle.method.specs.Bounds.{AnsweredFiguresFit};
+ghost use Rattle.method.specs.Figures.{figuresAnswer, AnsweredFiguresFit};
 ghost use Rattle.method.specs.Inflow.{meanRainInflow, stepInflow, forecastInflow, judgedInflow};
-use crate::Estimate;
 use crate::Figures;
 use crate::FiguresAnswer;
+use weighting::Estimate;
 
 // The inflow of a basin in one step, from its rain, area and runoff.
 pub fn step_inflow(rain: u64, area: u64, runoff: u64) -> FiguresAnswer

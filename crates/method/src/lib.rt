@@ -1,34 +1,16 @@
 ghost use mathlib.Core.Path.{_≡_};
-ghost use Rattle.method.specs.Figures.{discharge, variance, figures};
-ghost use Rattle.method.specs.Answers.{figuresAnswer};
-ghost use Rattle.method.specs.Bounds.{AnsweredFiguresFit};
+ghost use Rattle.method.specs.Figures.{discharge, variance, figures, figuresAnswer, AnsweredFiguresFit};
 ghost use Rattle.method.specs.Inflow.{judgedInflow};
 use refusal::Refusal;
 use units::Discharge;
 use units::DischargeAnswer;
 use units::Variance;
 use units::VarianceAnswer;
+use weighting::Estimate;
 
-pub mod weight; // weight.rt: the series weight H of an element
-pub mod blend; // blend.rt: the blend of two estimates by a weight
-pub mod rating; // rating.rt: from a stage to a discharge
 pub mod inflow; // inflow.rt: the inflow of a basin from rain
 pub mod routing; // routing.rt: the move of one element
 pub mod correction; // correction.rt: the correction of one element by a reading
-
-// S: weights are whole numbers 0 to S.
-pub const SCALE: u64 = 1_000_000_000;
-
-// A number with its margin.
-pub struct Estimate {
-    pub value: u64,
-    pub margin: u64,
-}
-
-pub enum EstimateAnswer {
-    Accepted(Estimate),
-    Refused(Refusal),
-}
 
 // What an element holds or takes in: discharge and variance, each with its margin.
 pub struct Figures {

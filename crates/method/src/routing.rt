@@ -2,19 +2,19 @@ ghost use mathlib.Core.Path.{_≡_};
 ghost use Prim.Native.Nat.{_≤_};
 ghost use Rattle.units.specs.Units.{C, S};
 ghost use Rattle.units.specs.Ceiling.{underCeiling};
-ghost use Rattle.method.specs.Answers.{estimateAnswer, figuresAnswer};
-ghost use Rattle.method.specs.Bounds.{EstimateFits, FiguresFit, AnsweredEstimateFits, AnsweredFiguresFit};
+ghost use Rattle.weighting.specs.Estimates.{AnsweredEstimateFits, EstimateFits, estimateAnswer};
+ghost use Rattle.method.specs.Figures.{figuresAnswer, FiguresFit, AnsweredFiguresFit};
 ghost use Rattle.method.specs.Routing.{routedVariance, judgedVariance, routingAnswer};
-use crate::Estimate;
-use crate::EstimateAnswer;
 use crate::Figures;
 use crate::FiguresAnswer;
-use crate::SCALE;
-use crate::blend::blend;
 use refusal::Refusal;
 use units::Discharge;
 use units::Variance;
 use units::VarianceAnswer;
+use weighting::Estimate;
+use weighting::EstimateAnswer;
+use weighting::SCALE;
+use weighting::blend::blend;
 
 const WEIGHT_MARGIN: u64 = 3;
 

@@ -3,7 +3,7 @@ use borrow.Author.Needs.{needs}
 use mathlib.Core.Path.{_≡_, ap, sym, _∙_}
 use Rattle.units.specs.Answers.{dischargeAnswer, varianceAnswer}
 use Rattle.units.proofs.CeilingLaws.{passes, stays, none-left, refused-one, accepted-one}
-use Rattle.method.specs.Bounds.{AnsweredFiguresFit}
+use Rattle.method.specs.Figures.{AnsweredFiguresFit}
 use Rattle.method.specs.Inflow.{judgedInflow}
 use Rattle.method.proofs.Figures.new.Statement.{statement}
 use Rattle.method.proofs.Figures.new.Tie as tie

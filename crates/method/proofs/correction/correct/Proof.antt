@@ -6,12 +6,12 @@ use native.Mathlib.Omega.{arith}
 use Rattle.units.specs.Units.{C, S}
 use Rattle.units.specs.Answers.{varianceAnswer}
 use Rattle.units.proofs.CeilingLaws.{refused-one, accepted-one}
-use Rattle.method.specs.Figures.{estimate}
-use Rattle.method.specs.Bounds.{EstimateFits, AnsweredEstimateFits, AnsweredFiguresFit}
-use Rattle.method.specs.Blend.{blended}
+use Rattle.weighting.specs.Estimates.{AnsweredEstimateFits, EstimateFits, estimate}
+use Rattle.method.specs.Figures.{AnsweredFiguresFit}
+use Rattle.weighting.specs.Blend.{blended}
 use Rattle.method.specs.Correction.{gain, correctedDischarge}
 use Rattle.method.proofs.FiguresLaws.{discharge-fits, variance-fits}
-use Rattle.method.proofs.BlendLaws.{rest-most, value-le, blend-known, blend-over}
+use Rattle.weighting.proofs.BlendLaws.{rest-most, value-le, blend-known, blend-over}
 use Rattle.method.proofs.CorrectionLaws.{blend-of, variance-of, discharge-passes, variance-margin-passes, correction-accepted}
 use Rattle.method.proofs.correction.correct.Statement.{statement}
 use Rattle.method.proofs.correction.correct.Tie as tie

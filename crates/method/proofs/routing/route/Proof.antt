@@ -4,13 +4,12 @@ use mathlib.Core.Path.{_≡_, ap, sym, subst, _∙_}
 use Prim.Native.Nat.{_≤_}
 use native.Mathlib.Omega.{arith}
 use Rattle.units.specs.Units.{C}
-use Rattle.method.specs.Figures.{discharge, variance}
-use Rattle.method.specs.Blend.{blendAnswer}
-use Rattle.method.specs.Answers.{estimateAnswer}
-use Rattle.method.specs.Bounds.{EstimateFits, AnsweredEstimateFits, AnsweredFiguresFit}
+use Rattle.weighting.specs.Estimates.{AnsweredEstimateFits, EstimateFits, estimateAnswer}
+use Rattle.method.specs.Figures.{discharge, variance, AnsweredFiguresFit}
+use Rattle.weighting.specs.Blend.{blendAnswer}
 use Rattle.method.specs.Routing.{routedDischarge}
 use Rattle.method.proofs.FiguresLaws.{discharge-fits, variance-fits}
-use Rattle.method.proofs.BlendLaws.{value-le, blend-known, blend-over}
+use Rattle.weighting.proofs.BlendLaws.{value-le, blend-known, blend-over}
 use Rattle.method.proofs.RoutingLaws.{varianceAnswer, discharge-passes, variance-passes, routing-accepted}
 use Rattle.method.proofs.routing.route.Statement.{statement}
 use Rattle.method.proofs.routing.route.Tie as tie

@@ -4,9 +4,9 @@ use mathlib.Core.Path.{_≡_, refl, ap, sym, subst, _∙_}
 use native.Mathlib.Omega.{arith}
 use Rattle.units.specs.Answers.{varianceAnswer}
 use Rattle.units.proofs.CeilingLaws.{refused-one, accepted-one}
-use Rattle.method.specs.Bounds.{EstimateFits, AnsweredEstimateFits}
+use Rattle.weighting.specs.Estimates.{AnsweredEstimateFits, EstimateFits}
 use Rattle.method.specs.Routing.{keptVariance, broughtVariance}
-use Rattle.method.proofs.BlendLaws.{blend-known, blend-over}
+use Rattle.weighting.proofs.BlendLaws.{blend-known, blend-over}
 use Rattle.method.proofs.RoutingLaws.{kept-passes, brought-passes, both-passes, sum-passes, variance-accepted}
 use Rattle.method.proofs.routing.route_variance.Statement.{statement}
 use Rattle.method.proofs.routing.route_variance.Tie as tie

@@ -1,0 +1,12 @@
+pub mod SignedParts
+pub mod FractionParts
+pub mod Tracking
+pub mod Weights
+pub mod WeightNear
+pub mod BlendNear
+pub mod CorrectionNear
+pub mod RoutingNear
+pub mod InflowNear
+pub mod RatingNear
+pub mod MarginGrowth
+pub mod Theorems

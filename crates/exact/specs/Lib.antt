@@ -1,0 +1,4 @@
+pub mod Fraction
+pub mod Series
+pub mod Exact
+pub mod Margins
