@@ -1,0 +1,24 @@
+-- The starred figures hold, each by computation.
+use mathlib.Core.Path.{refl}
+use Rattle.weighting.specs.Weight.{turned, weight}
+use Rattle.weighting.specs.Blend.{weightedMean, gapOf, blended}
+use Rattle.rating.specs.Rating.{pieceFor, depth, dischargeAt, onPiece, rated}
+use Rattle.method.specs.Correction.{gain, gainMargin, correctedDischarge, correctedVariance, corrected}
+use Rattle.figures.specs.Starred.{Starred}
+
+pub starred : Starred
+unfolding turned weight weightedMean gapOf blended pieceFor depth dischargeAt onPiece rated gain gainMargin correctedDischarge correctedVariance corrected
+starred =
+    record {
+      weight-of-an-hour = refl;
+      weight-of-a-minute = refl;
+      even-blend = refl;
+      gain-of-a-reading = refl;
+      correction = refl;
+      correction-without-variance = refl;
+      stage-1500 = refl;
+      stage-500 = refl;
+      stage-499 = refl;
+      stage-below-top = λ a₁ a₂ b₁ b₂. refl;
+      stage-at-top = λ a₁ a₂ b₁ b₂. refl;
+    }

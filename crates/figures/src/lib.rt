@@ -1,0 +1,1 @@
+// Facts only: the starred figures of document 01.
