@@ -12,7 +12,7 @@ use Rattle.weighting.specs.declared.Estimate.{Estimate}
 use Rattle.weighting.specs.Estimates.{estimate}
 use Rattle.method.specs.Figures.{discharge, variance, figures}
 use Rattle.weighting.specs.Blend.{blended}
-use Rattle.method.specs.Correction.{gain, gainMargin, correctedDischarge, correctedVariance, corrected, correctionAnswer}
+use Rattle.method.specs.Correction.{gain, gainMargin, correctedDischarge, correctedVariance, corrected, correctionNumbers, correctionAnswer}
 
 -- a part of a number is at most the number
 pub part-le : (a b t : ℕ) → b ≤ t → a * b / t ≤ a
@@ -39,16 +39,16 @@ variance-of R x v left hv hl = rw (← hv) hl
 -- rule 16 on a correction, once the discharge is known
 module _ (R z : ℕ) (x : Figures) (l : correctedDischarge R z x .value ≤ C) where
   pub discharge-passes : C < correctedDischarge R z x .margin → correctionAnswer R z x ≡ refused 16
-  unfolding correctionAnswer
+  unfolding correctionAnswer correctionNumbers
   discharge-passes h = stays _ _ _ l ∙ passes _ _ _ h
 
   module _ (m : correctedDischarge R z x .margin ≤ C) (v : correctedVariance R (variance x) .value ≤ C) where
     pub variance-margin-passes : C < correctedVariance R (variance x) .margin → correctionAnswer R z x ≡ refused 16
-    unfolding correctionAnswer
+    unfolding correctionAnswer correctionNumbers
     variance-margin-passes h = stays _ _ _ l ∙ (stays _ _ _ m ∙ (stays _ _ _ v ∙ passes _ _ _ h))
 
     pub correction-accepted :
         correctedVariance R (variance x) .margin ≤ C
         → correctionAnswer R z x ≡ accepted (figures (correctedDischarge R z x) (correctedVariance R (variance x)))
-    unfolding correctionAnswer corrected
+    unfolding correctionAnswer correctionNumbers corrected
     correction-accepted h = stays _ _ _ l ∙ (stays _ _ _ m ∙ (stays _ _ _ v ∙ (stays _ _ _ h ∙ none-left _)))

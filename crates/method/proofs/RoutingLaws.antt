@@ -11,7 +11,7 @@ use Rattle.method.specs.declared.Figures.{Figures}
 use Rattle.weighting.specs.Estimates.{estimate}
 use Rattle.method.specs.Figures.{discharge, variance, figures}
 use Rattle.weighting.specs.Blend.{blended}
-use Rattle.method.specs.Routing.{routedDischarge, keptVariance, broughtVariance, routedVariance, routed, judgedVariance, routingAnswer}
+use Rattle.method.specs.Routing.{routedDischarge, keptVariance, broughtVariance, routedVariance, routed, judgedVariance, routingNumbers, routingAnswer}
 use Rattle.weighting.proofs.BlendLaws.{value-le}
 
 -- the answer of the variance's move
@@ -57,20 +57,20 @@ module _ (H W : ℕ) (inflow old : Figures) where
       routedDischarge H inflow old .value ≤ C
       → C < routedDischarge H inflow old .margin
       → routingAnswer H W inflow old ≡ refused 16
-  unfolding routingAnswer
+  unfolding routingAnswer routingNumbers
   discharge-passes l h = stays _ _ _ l ∙ passes _ _ _ h
 
   module _ (l : routedDischarge H inflow old .value ≤ C) (m : routedDischarge H inflow old .margin ≤ C) where
     pub variance-passes :
         {k : ℕ} → refused k ≡ varianceAnswer H W (variance inflow) (variance old) → routingAnswer H W inflow old ≡ refused 16
-    unfolding routingAnswer
+    unfolding routingAnswer routingNumbers
     variance-passes e = stays _ _ _ l ∙ (stays _ _ _ m ∙ same-refused _ _ _ e)
 
     pub routing-accepted :
         {v : Estimate}
         → accepted v ≡ varianceAnswer H W (variance inflow) (variance old)
         → routingAnswer H W inflow old ≡ accepted (figures (routedDischarge H inflow old) v)
-    unfolding routingAnswer routed
+    unfolding routingAnswer routingNumbers routed
     routing-accepted e =
         let s = same-accepted _ (routed H W inflow old) _ e in
         rw (s .0) (stays _ _ _ l ∙ (stays _ _ _ m ∙ s .1))

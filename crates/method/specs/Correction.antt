@@ -1,6 +1,6 @@
 -- Document 01, Reading: the correction of an element by the discharge z that its gauge gives.
 use Prim.Native.Nat.{ℕ, _+_, _-_, _*_, _/_, min}
-use mathlib.Core.List.{[], _∷_}
+use mathlib.Core.List.{List, [], _∷_}
 use Rattle.refusal.specs.Answers.{Answer}
 use Rattle.units.specs.Units.{S}
 use Rattle.units.specs.Ceiling.{underCeiling}
@@ -31,8 +31,11 @@ unfoldable pub corrected : ℕ → ℕ → Figures → Figures
 corrected R z x = figures (correctedDischarge R z x) (correctedVariance R (variance x))
 
 -- rule 16: "Some .. discharge or variance .. after correction, or the margin of any of these .. would pass C"
-unfoldable pub correctionAnswer : ℕ → ℕ → Figures → Answer Figures
-correctionAnswer R z x =
+unfoldable pub correctionNumbers : ℕ → ℕ → Figures → List ℕ
+correctionNumbers R z x =
     let q : Estimate = correctedDischarge R z x in
     let v : Estimate = correctedVariance R (variance x) in
-    underCeiling (q .value ∷ q .margin ∷ v .value ∷ v .margin ∷ []) (corrected R z x)
+    q .value ∷ q .margin ∷ v .value ∷ v .margin ∷ []
+
+unfoldable pub correctionAnswer : ℕ → ℕ → Figures → Answer Figures
+correctionAnswer R z x = underCeiling (correctionNumbers R z x) (corrected R z x)

@@ -1,7 +1,7 @@
 -- Document 01, One step and Forecast: what flows into an element, and rule 16 for it.
 use Prim.Native.Nat.{ℕ, _+_, _*_, _/_}
 use mathlib.Core.Bool.{cond}
-use mathlib.Core.List.{[], _∷_}
+use mathlib.Core.List.{List, [], _∷_}
 use lib.Dec.{eqb}
 use Rattle.refusal.specs.Answers.{Answer}
 use Rattle.units.specs.Ceiling.{underCeiling}
@@ -33,6 +33,8 @@ unfoldable pub forecastInflow : ℕ → ℕ → ℕ → ℕ → ℕ → ℕ → 
 forecastInflow s c area f lead G = figures (estimate (meanRainInflow s c area f) 1) (estimate (lead * G) 0)
 
 -- rule 16: "Some inflow, inflow variance .. or the margin of any of these .. would pass C"
+unfoldable pub inflowNumbers : Figures → List ℕ
+inflowNumbers i = i .discharge .0 ∷ i .«discharge_margin» .0 ∷ i .variance .0 ∷ i .«variance_margin» .0 ∷ []
+
 unfoldable pub judgedInflow : Figures → Answer Figures
-judgedInflow i =
-    underCeiling (i .discharge .0 ∷ i .«discharge_margin» .0 ∷ i .variance .0 ∷ i .«variance_margin» .0 ∷ []) i
+judgedInflow i = underCeiling (inflowNumbers i) i

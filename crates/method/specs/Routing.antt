@@ -39,7 +39,10 @@ judgedVariance H W inflow old =
     keptVariance H old .margin ∷ broughtVariance H inflow .margin ∷ v .margin ∷ v .value ∷ []
 
 -- and the discharge with its margin
-unfoldable pub routingAnswer : ℕ → ℕ → Figures → Figures → Answer Figures
-routingAnswer H W inflow old =
+unfoldable pub routingNumbers : ℕ → ℕ → Figures → Figures → List ℕ
+routingNumbers H W inflow old =
     let q : Estimate = routedDischarge H inflow old in
-    underCeiling (q .value ∷ q .margin ∷ judgedVariance H W (variance inflow) (variance old)) (routed H W inflow old)
+    q .value ∷ q .margin ∷ judgedVariance H W (variance inflow) (variance old)
+
+unfoldable pub routingAnswer : ℕ → ℕ → Figures → Figures → Answer Figures
+routingAnswer H W inflow old = underCeiling (routingNumbers H W inflow old) (routed H W inflow old)

@@ -1,9 +1,10 @@
 -- Laws of rule 16's definition, one number of its list at a time.
 use Prim.Native.Nat.{ℕ, _≤_, _<_}
-use mathlib.Core.Bool.{Bool, true, false, cond}
-use mathlib.Core.List.{List, [], _∷_}
+use mathlib.Core.Bool.{Bool, true, false, cond, _||_}
+use mathlib.Core.List.{List, [], _∷_, _++_}
 use mathlib.Core.Path.{_≡_, refl, _∙_}
 use borrow.Author.Tests.{lt-ltb, le-ltb}
+use lib.Dec.{ltb}
 use native.Mathlib.Decide.{decLe}
 use native.Mathlib.Omega.{arith}
 use Rattle.refusal.specs.Answers.{Answer, accepted, refused}
@@ -66,3 +67,38 @@ module _ {A : Type 0} (n : ℕ) (a : A) where
       go : Dec (n ≤ C) → n ≤ C
       go (yes h) = h
       go (no h) = let z : _≡_ {A = ℕ} 0 1 = cc (e ∙ passes n [] a (omega arith)) in absurd (omega arith)
+
+-- numbers after numbers
+passes-append : (ns ms : List ℕ) → somePasses (ns ++ ms) ≡ (somePasses ns || somePasses ms)
+unfolding somePasses
+passes-append [] ms = refl
+passes-append (n ∷ ns) ms = rw (passes-append ns ms) (or-assoc (ltb C n) (somePasses ns) (somePasses ms))
+  where
+    or-assoc : (a b c : Bool) → (a || (b || c)) ≡ ((a || b) || c)
+    or-assoc true b c = refl
+    or-assoc false b c = refl
+
+module _ {A B : Type 0} (ns ms : List ℕ) (a : A) (b : B) where
+  -- the first numbers refuse
+  pub refused-append : {k : ℕ} → refused k ≡ underCeiling ns a → underCeiling (ns ++ ms) b ≡ refused 16
+  unfolding underCeiling
+  refused-append {k} e = rw (passes-append ns ms) (go (somePasses ns) e)
+    where
+      go :
+          (t : Bool)
+          → refused k ≡ cond t (refused 16) (accepted a)
+          → cond (t || somePasses ms) (refused 16) (accepted b) ≡ refused 16
+      go true h = refl
+      go false h = let z : _≡_ {A = ℕ} 0 1 = cc in absurd (omega arith)
+
+  -- they do not: the others decide
+  pub accepted-append : {x : A} → accepted x ≡ underCeiling ns a → underCeiling (ns ++ ms) b ≡ underCeiling ms b
+  unfolding underCeiling
+  accepted-append {x} e = rw (passes-append ns ms) (go (somePasses ns) e)
+    where
+      go :
+          (t : Bool)
+          → accepted x ≡ cond t (refused 16) (accepted a)
+          → cond (t || somePasses ms) (refused 16) (accepted b) ≡ cond (somePasses ms) (refused 16) (accepted b)
+      go true h = let z : _≡_ {A = ℕ} 0 1 = cc in absurd (omega arith)
+      go false h = refl

@@ -4,7 +4,7 @@ use mathlib.Core.Path.{_≡_, ap, sym, _∙_}
 use Rattle.units.specs.Answers.{dischargeAnswer, varianceAnswer}
 use Rattle.units.proofs.CeilingLaws.{passes, stays, none-left, refused-one, accepted-one}
 use Rattle.method.specs.Figures.{AnsweredFiguresFit}
-use Rattle.method.specs.Inflow.{judgedInflow}
+use Rattle.method.specs.Inflow.{inflowNumbers, judgedInflow}
 use Rattle.method.proofs.Figures.new.Statement.{statement}
 use Rattle.method.proofs.Figures.new.Tie as tie
 
@@ -18,7 +18,7 @@ enum-told : tie.Need-enum-told
 enum-told c = search needs
 
 returns : tie.Need-returns
-unfolding judgedInflow AnsweredFiguresFit
+unfolding judgedInflow inflowNumbers AnsweredFiguresFit
 returns c =
     let o = refused-one _ _ (sym (ap dischargeAnswer (c .enum-told .given .1)) ∙ c .before .before .new .ensures) in
     (sym (passes _ _ _ o), tt)
@@ -33,7 +33,7 @@ enum-told-2 : tie.Need-enum-told-2
 enum-told-2 c = search needs
 
 returns-2 : tie.Need-returns-2
-unfolding judgedInflow AnsweredFiguresFit
+unfolding judgedInflow inflowNumbers AnsweredFiguresFit
 returns-2 c =
     let d1 = c .before .before .before .before in
     let k1 = accepted-one _ _ (sym (ap dischargeAnswer (d1 .discharge .given .1)) ∙ d1 .before .before .new .ensures) in
@@ -50,7 +50,7 @@ enum-told-3 : tie.Need-enum-told-3
 enum-told-3 c = search needs
 
 returns-3 : tie.Need-returns-3
-unfolding judgedInflow AnsweredFiguresFit
+unfolding judgedInflow inflowNumbers AnsweredFiguresFit
 returns-3 c =
     let d2 = c .before .before .before .before in
     let d1 = d2 .before .before .before .before in
@@ -69,7 +69,7 @@ enum-told-4 : tie.Need-enum-told-4
 enum-told-4 c = search needs
 
 returns-4 : tie.Need-returns-4
-unfolding judgedInflow AnsweredFiguresFit
+unfolding judgedInflow inflowNumbers AnsweredFiguresFit
 returns-4 c =
     let d3 = c .before .before .before .before in
     let d2 = d3 .before .before .before .before in
@@ -81,7 +81,7 @@ returns-4 c =
     (sym (stays _ _ _ (k1 .0) ∙ (stays _ _ _ (k2 .0) ∙ (stays _ _ _ (k3 .0) ∙ (passes _ _ _ o)))), tt)
 
 returns-5 : tie.Need-returns-5
-unfolding judgedInflow AnsweredFiguresFit
+unfolding judgedInflow inflowNumbers AnsweredFiguresFit
 returns-5 c =
     let d4 = c .before in
     let d3 = d4 .before .before .before .before in
