@@ -1,0 +1,168 @@
+-- Laws of the entries: the rules in checking order, and what an accepted table and record give.
+use Prim.{Unit}
+use Prim.Native.Nat.{ℕ, _≤_, _<_}
+use mathlib.Core.Bool.{true, false}
+use mathlib.Core.List.{List}
+use mathlib.Core.Path.{_≡_, sym, ap, subst, _∙_}
+use borrow.Author.Tests.{leb-true}
+use lib.Dec.{leb, eqb}
+use lib.ListN.{getD}
+use Rattle.refusal.specs.Refusals.{number}
+use Rattle.refusal.specs.Answers.{Answer, accepted, refused}
+use Rattle.refusal.specs.declared.Refusal.{Refusal}
+use Rattle.units.specs.Units.{C}
+use Rattle.units.specs.Ceiling.{underCeiling}
+use Rattle.method.specs.declared.Figures.{Figures}
+use Rattle.method.specs.Figures.{FiguresFit}
+use Rattle.table.specs.declared.Table.{Table}
+use Rattle.table.specs.declared.Verdict.{Verdict}
+use Rattle.table.specs.declared.Verdict.the-variants.{Accepted, Refused}
+use Rattle.table.specs.Verdicts.{verdictAnswer}
+use Rattle.table.specs.Tables.{TableValues}
+use Rattle.table.specs.Rules.{tableRules}
+use Rattle.table.specs.InUse.{valuesOf}
+use Rattle.table.proofs.HeldLaws.{TableKnown}
+use Rattle.fields.proofs.RangeLaws.{both, all-three, all-four, all-at}
+use Rattle.table.proofs.InUseLaws.{below-used, below-same}
+use Rattle.table.proofs.TableLaws as table-laws
+use Rattle.record.specs.declared.Input.{Input}
+use Rattle.record.specs.declared.InputsAnswer.{InputsAnswer}
+use Rattle.record.specs.Records.{inputAt}
+use Rattle.record.specs.Rules.{recordRules}
+use Rattle.record.specs.Decoded.{noInput, RecordRead}
+use Rattle.record.proofs.RecordLaws as record-laws
+use Rattle.state.specs.declared.State.{State}
+use Rattle.state.specs.declared.StateAnswer.{StateAnswer}
+use Rattle.state.specs.States.{placeOf}
+use Rattle.state.specs.Rules.{figuresFit, placeFits, stateFits, stepsLeft}
+use Rattle.state.specs.Start.{started}
+use Rattle.network.specs.Step.{stepped, stepNumbers}
+use Rattle.network.specs.Bounds.{inputsOf, InputsFit, FiguresUnder}
+use Rattle.engine.specs.Entries.{startAnswer, inputsIn, stepOnAnswer}
+use Rattle.state.specs.Answers.{verdict, Answered}
+use Rattle.state.proofs.AnswerLaws.{answered-refused, answered-accepted}
+
+-- ---- the start
+
+pub start-accepted :
+    (bytes : List ℕ) (table : Table) (s next : State) (v : Verdict)
+    → TableKnown bytes table
+    → v ≡ Accepted
+    → next ≡ started (valuesOf table) s
+    → Answered (record { verdict = v; state = next }) (startAnswer bytes s) s
+unfolding startAnswer
+start-accepted bytes table s next v k e h =
+    rw e
+    (answered-accepted _ s next (table-laws.rules-accepted bytes _ (k .kept) ∙ ap accepted (rw (← k .values) (sym h))))
+
+-- an answer that the table's rules refuse
+pub refused-by-table :
+    (bytes : List ℕ) (rest : Answer State) (s : State) (v : Verdict) (k : Refusal)
+    → tableRules {A = Unit} bytes (accepted tt) ≡ refused (number k)
+    → v ≡ Refused k
+    → Answered (record { verdict = v; state = s }) (tableRules bytes rest) s
+refused-by-table bytes rest s v k h e = rw e (answered-refused k _ s (table-laws.rules-refused bytes rest h))
+
+-- ---- the step
+
+module _ (t : TableValues) (bytes : List ℕ) (s : State) where
+  pub state-refused : stateFits t s ≡ false → stepOnAnswer t bytes s ≡ refused 8
+  unfolding stepOnAnswer
+  state-refused h = rw h
+
+  module _ (h : stateFits t s ≡ true) where
+    pub limit-refused : stepsLeft s ≡ false → stepOnAnswer t bytes s ≡ refused 9
+    unfolding stepOnAnswer
+    limit-refused l = rw (h, l)
+
+    module _ (l : stepsLeft s ≡ true) where
+      pub record-refused : {k : ℕ} → recordRules {A = Unit} t bytes (accepted tt) ≡ refused k → stepOnAnswer t bytes s ≡ refused k
+      unfolding stepOnAnswer
+      record-refused r = rw (h, l) (record-laws.rules-refused t bytes _ r)
+
+      pub record-accepted :
+          recordRules {A = Unit} t bytes (accepted tt) ≡ accepted tt
+          → stepOnAnswer t bytes s ≡ underCeiling (stepNumbers t (inputsIn t bytes) s) (stepped t (inputsIn t bytes) s)
+      unfolding stepOnAnswer
+      record-accepted r = rw (h, l) (record-laws.rules-accepted t bytes _ r)
+
+-- what rule 8 gives
+module _ (t : TableValues) (s : State) (h : stateFits t s ≡ true) where
+  pub steps-most : s .steps ≤ 10000
+  unfolding stateFits
+  steps-most = leb-true _ _ (all-three (eqb (s .elements) (t .elements)) (leb (s .steps) 10000) _ h .1 .0)
+
+  figures-under : (f : Figures) → figuresFit f ≡ true → FiguresFit f
+  unfolding figuresFit
+  figures-under f k =
+      let a = all-four (leb (f .discharge .0) C) (leb (f .«discharge_margin» .0) C) (leb (f .variance .0) C) (leb (f .«variance_margin» .0) C) k in
+      record {
+        discharge = leb-true _ _ (a .0);
+        dischargeMargin = leb-true _ _ (a .1 .0);
+        variance = leb-true _ _ (a .1 .1 .0);
+        varianceMargin = leb-true _ _ (a .1 .1 .1);
+      }
+
+  pub places-under : FiguresUnder s (t .elements)
+  unfolding stateFits placeFits
+  places-under =
+      record {
+        at = λ i l. figures-under _ (both (figuresFit (placeOf s i .figures)) _ (all-at (λ k. placeFits (t .element k .kind) (placeOf s k)) _ i l (all-three (eqb (s .elements) (t .elements)) (leb (s .steps) 10000) _ h .1 .1)) .0);
+      }
+
+-- what an accepted record gives
+module _ (table : Table) (bytes : List ℕ) (r : InputsAnswer) (h : RecordRead (valuesOf table) bytes r) (e : r .verdict ≡ Accepted) where
+  pub record-kept : recordRules {A = Unit} (valuesOf table) bytes (accepted tt) ≡ accepted tt
+  record-kept = sym (h .verdict) ∙ ap verdictAnswer e
+
+  input-is : (i : ℕ) → i < table .elements → getD (r .input) i noInput ≡ inputAt (valuesOf table) bytes i
+  unfolding inputAt valuesOf
+  input-is i l = h .inputs record-kept .at i l
+
+  pub inputs-are : inputsOf (table .elements) (r .input) ≡ inputsIn (valuesOf table) bytes
+  unfolding inputsOf inputsIn valuesOf
+  inputs-are = below-same (table .elements) noInput _ _ input-is
+
+  pub inputs-fit : InputsFit (r .input) (table .elements)
+  unfolding inputsOf valuesOf
+  inputs-fit =
+      record {
+        at = λ i l. rw (below-used (table .elements) noInput (λ k. getD (r .input) k noInput) i l, input-is i l) (h .fits record-kept i l);
+      }
+
+pub record-verdict :
+    (table : Table) (bytes : List ℕ) (r : InputsAnswer)
+    → RecordRead (valuesOf table) bytes r
+    → {k : Refusal}
+    → r .verdict ≡ Refused k
+    → recordRules {A = Unit} (valuesOf table) bytes (accepted tt) ≡ refused (number k)
+record-verdict table bytes r h e = sym (h .verdict) ∙ ap verdictAnswer e
+
+-- an answer known by another name
+pub answered-as :
+    {r : StateAnswer} {a b : Answer State} {s : State} → a ≡ b → Answered r b s → Answered r a s
+answered-as {r} {a} {b} {s} e h = subst (λ (x : Answer State). Answered r x s) (sym e) h
+
+-- a refused answer with its verdict held in a variable
+pub refused-as :
+    (v : Verdict) (k : Refusal) (answer : Answer State) (s : State)
+    → v ≡ Refused k
+    → answer ≡ refused (number k)
+    → Answered (record { verdict = v; state = s }) answer s
+refused-as v k answer s e h = rw e (answered-refused k answer s h)
+
+-- an answer on equal inputs, and on equal tables
+pub answered-inputs :
+    {r : StateAnswer} (t : TableValues) (told told′ : ℕ → Input) (s : State)
+    → told ≡ told′
+    → Answered r (underCeiling (stepNumbers t told s) (stepped t told s)) s
+    → Answered r (underCeiling (stepNumbers t told′ s) (stepped t told′ s)) s
+answered-inputs {r} t told told′ s e h =
+    subst (λ (x : ℕ → Input). Answered r (underCeiling (stepNumbers t x s) (stepped t x s)) s) e h
+
+pub answered-table :
+    {r : StateAnswer} (t t′ : TableValues) (bytes : List ℕ) (s : State)
+    → t ≡ t′
+    → Answered r (stepOnAnswer t bytes s) s
+    → Answered r (stepOnAnswer t′ bytes s) s
+answered-table {r} t t′ bytes s e h = subst (λ (x : TableValues). Answered r (stepOnAnswer x bytes s) s) e h

@@ -1,0 +1,36 @@
+-- `start` meets its contract.
+use borrow.Author.Needs.{needs}
+use mathlib.Core.Path.{sym}
+use Rattle.engine.specs.Entries.{startAnswer}
+use Rattle.table.proofs.HeldLaws.{few-elements}
+use Rattle.table.proofs.HeldLaws.{table-accepted, table-refused}
+use Rattle.engine.proofs.EntryLaws.{start-accepted, refused-by-table}
+use Rattle.engine.proofs.start.Statement.{statement}
+use Rattle.engine.proofs.start.Tie as tie
+
+read-requires : tie.Need-read-requires
+read-requires c κs = search needs
+
+enum-told : tie.Need-enum-told
+enum-told c = search needs
+
+start-on-requires : tie.Need-start-on-requires
+start-on-requires c κs =
+    few-elements _ (table-accepted _ _ (c .before .before .before .read .ensures) (c .enum-told .given .1) .bounds)
+
+enum-told-2 : tie.Need-enum-told-2
+enum-told-2 c = search needs
+
+returns : tie.Need-returns
+returns c =
+    let e = c .before in
+    start-accepted _ _ _ _ _ (table-accepted _ _ (e .before .before .before .read .ensures) (e .enum-told .given .1)) (e .enum-told .given .1) (c .start-on .ensures)
+
+returns-2 : tie.Need-returns-2
+unfolding startAnswer
+returns-2 c =
+    refused-by-table _ _ _ _ _ (table-refused _ _ (c .before .before .before .read .ensures) (c .enum-told2 .given .1)) (c .enum-told2 .given .1)
+
+pub start-spec : {M : Type 1} → statement M
+start-spec =
+    tie.close (tie.spec read-requires enum-told start-on-requires enum-told-2 returns returns-2)

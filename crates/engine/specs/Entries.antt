@@ -1,0 +1,35 @@
+-- Document 01, Numbers for no: "Starting uses 1 to 7; a step 1 to 14 and 16".
+use Prim.Native.Nat.{ℕ}
+use mathlib.Core.List.{List}
+use Rattle.refusal.specs.Answers.{Answer, accepted, rule}
+use Rattle.units.specs.Ceiling.{underCeiling}
+use Rattle.table.specs.Tables.{TableValues}
+use Rattle.table.specs.InUse.{below, tableIn}
+use Rattle.table.specs.Rules.{tableRules}
+use Rattle.record.specs.declared.Input.{Input}
+use Rattle.record.specs.Records.{inputAt}
+use Rattle.record.specs.Decoded.{noInput}
+use Rattle.record.specs.Rules.{recordRules}
+use Rattle.state.specs.declared.State.{State}
+use Rattle.state.specs.Rules.{stateFits, stepsLeft}
+use Rattle.state.specs.Start.{started}
+use Rattle.network.specs.Step.{stepped, stepNumbers}
+
+-- starting on the bytes of a table, from any state
+unfoldable pub startAnswer : List ℕ → State → Answer State
+startAnswer table s = tableRules table (accepted (started (tableIn table) s))
+
+-- what a record tells the elements in use
+unfoldable pub inputsIn : TableValues → List ℕ → ℕ → Input
+inputsIn t bytes = below (t .elements) noInput (inputAt t bytes)
+
+-- a step on an accepted table and the bytes of a record
+unfoldable pub stepOnAnswer : TableValues → List ℕ → State → Answer State
+stepOnAnswer t bytes s =
+    rule 8 (stateFits t s)
+    (rule 9 (stepsLeft s)
+    (recordRules t bytes (underCeiling (stepNumbers t (inputsIn t bytes) s) (stepped t (inputsIn t bytes) s))))
+
+-- a step on the bytes of a table and of a record
+unfoldable pub stepAnswer : List ℕ → List ℕ → State → Answer State
+stepAnswer table bytes s = tableRules table (stepOnAnswer (tableIn table) bytes s)

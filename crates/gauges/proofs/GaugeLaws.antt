@@ -1,0 +1,66 @@
+-- Laws of the gauges: what rule 7 asks and what it lets callers rely on.
+use Prim.Native.Nat.{ℕ, zero, suc, _-_, _<_}
+use mathlib.Core.Bool.{true}
+use mathlib.Core.Path.{_≡_}
+use borrow.Author.Tests.{ltb-true, leb-true, lt-ltb}
+use native.Mathlib.Omega.{arith}
+use lib.Dec.{ltb, leb, eqb}
+use Rattle.units.specs.Units.{C}
+use Rattle.rating.specs.Rating.{OffsetFits, PieceFits, CurveFits}
+use Rattle.rating.specs.declared.Offset.{Offset}
+use Rattle.rating.specs.declared.Offset.the-variants.{Plus, Minus}
+use Rattle.rating.specs.declared.Piece.{Piece}
+use Rattle.rating.specs.declared.Curve.{Curve}
+use Rattle.fields.specs.Ranges.{inRange, allBelow}
+use Rattle.fields.proofs.RangeLaws.{all-three, all-four, range-bounds, all-at}
+use Rattle.gauges.specs.declared.Gauge.{Gauge}
+use Rattle.gauges.specs.Rules.{offsetFits, pieceOf, topBefore, pieceInUseFits, pieceFits, curveFits, elementBefore, gaugeFits}
+use Rattle.gauges.specs.Bounds.{GaugeBounds}
+
+-- what stands before a piece or a gauge that is not the first
+pub top-before : (curve : Curve) (j : ℕ) → 0 < j → topBefore curve j ≡ pieceOf curve (j - 1) .top .0
+unfolding topBefore
+top-before curve zero l = absurd (omega arith)
+top-before curve (suc j) l = let e : suc j - 1 ≡ j = omega arith in rw e
+
+pub element-before : (gauge : ℕ → Gauge) (g : ℕ) → 0 < g → elementBefore gauge g ≡ gauge (g - 1) .element
+unfolding elementBefore
+element-before gauge zero l = absurd (omega arith)
+element-before gauge (suc g) l = let e : suc g - 1 ≡ g = omega arith in rw e
+
+offset-bounds : (o : Offset) → offsetFits o ≡ true → OffsetFits o
+unfolding offsetFits OffsetFits
+offset-bounds (Plus b) h = leb-true _ _ h
+offset-bounds (Minus b) h = leb-true _ _ h
+
+piece-bounds : (below : ℕ) (p : Piece) → pieceInUseFits below p ≡ true → PieceFits p
+unfolding pieceInUseFits
+piece-bounds below p h =
+    let k = all-three (ltb below (p .top .0)) (inRange (p .factor) 1 1000000) (offsetFits (p .offset)) h in
+    record { factor = range-bounds _ _ _ (k .1 .0) .1; offset = offset-bounds _ (k .1 .1) }
+
+curve-bounds : (curve : Curve) → curveFits curve ≡ true → CurveFits curve
+unfolding curveFits pieceFits pieceOf
+curve-bounds curve h =
+    let last = eqb (pieceOf curve (curve .count - 1) .top .0) 30001 in
+    let k = all-three (inRange (curve .count) 1 5) (allBelow (pieceFits curve) 5) last h in
+    let most = range-bounds (curve .count) 1 5 (k .0) .1 in
+    record {
+      count = most;
+      pieces = λ i used. piece-bounds _ _ (rw (lt-ltb _ _ used) at (all-at (pieceFits curve) 5 i (omega arith) (k .1 .0)));
+    }
+
+pub gauge-bounds : (n : ℕ) (gauge : ℕ → Gauge) (g : ℕ) → gaugeFits n gauge g ≡ true → GaugeBounds n (gauge g)
+unfolding gaugeFits
+gauge-bounds n gauge g h =
+    let e = gauge g .element in
+    let later = ltb (elementBefore gauge g) e in
+    let noise = inRange (gauge g .noise .0) 1 C in
+    let k = all-four later (leb e n) noise (curveFits (gauge g .curve)) h in
+    record {
+      elementLeast = omega (arith, ltb-true (elementBefore gauge g) e (k .0));
+      elementMost = leb-true _ _ (k .1 .0);
+      noiseLeast = range-bounds _ _ _ (k .1 .1 .0) .0;
+      noiseMost = range-bounds _ _ _ (k .1 .1 .0) .1;
+      curve = curve-bounds _ (k .1 .1 .1);
+    }

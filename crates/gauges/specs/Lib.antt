@@ -1,0 +1,4 @@
+pub mod Gauges
+pub mod Rules
+pub mod Decoded
+pub mod Bounds

@@ -1,0 +1,33 @@
+-- What the step of one element may rely on.
+use Prim.Native.Nat.{ℕ, _≤_, _<_}
+use native.Mathlib.Omega.{arith}
+use lib.ListN.{getD}
+use Rattle.table.proofs.HeldLaws.{element-bounds}
+use Rattle.table.specs.declared.Table.{Table}
+use Rattle.method.specs.Figures.{FiguresFit}
+use Rattle.table.specs.Bounds.{TableBounds}
+use Rattle.elements.specs.Elements.{noElement}
+use Rattle.table.specs.InUse.{valuesOf}
+use Rattle.state.specs.declared.State.{State}
+use Rattle.state.specs.States.{noPlace, placeOf}
+use Rattle.network.specs.declared.Gathered.{Gathered}
+use Rattle.network.specs.Bounds.{ElementInRange, FiguresUnder, GatheredBelow}
+
+-- what the step of an element in use may rely on
+pub element-in-range : (table : Table) → TableBounds (valuesOf table) → (i : ℕ) → i < table .elements → ElementInRange (getD (table .element) i noElement)
+element-in-range table b i l =
+    let e = element-bounds table b i l in
+    record { area = e .area; runoff = e .runoff; noise = omega (arith, e .noise) }
+
+pub figures-in-range : (s : State) (n : ℕ) → FiguresUnder s n → (i : ℕ) → i < n → FiguresFit (getD (s .element) i noPlace .figures)
+unfolding placeOf
+figures-in-range s n f i l = f .at i l
+
+pub gathered-most : (g : Gathered) (b m : ℕ) → GatheredBelow g b → b ≤ m → GatheredBelow g m
+gathered-most g b m h l =
+    record {
+      discharge = omega (arith, h .discharge);
+      dischargeMargin = omega (arith, h .dischargeMargin);
+      variance = omega (arith, h .variance);
+      varianceMargin = omega (arith, h .varianceMargin);
+    }

@@ -1,0 +1,5 @@
+pub mod WalkLaws
+pub mod InRangeLaws
+pub mod StepLaws
+pub mod NetworkLaws
+pub mod SteppingLaws

@@ -1,0 +1,26 @@
+-- Document 01, One step: "element 1 to N", each after those that drain into it. One definition for any kind of cell.
+use Prim.Native.Nat.{ℕ, zero, suc, _+_}
+use mathlib.Core.Bool.{cond}
+use mathlib.Core.List.{List, [], _∷_}
+use lib.Dec.{eqb}
+
+-- "the sums of the new ones of all elements draining into it, 0 if none": of the elements done, each with the number that it
+-- drains into, those that drain into element number k
+unfoldable pub drained : {A : Type 0} → A → (A → A → A) → ℕ → List (ℕ × A) → A
+drained none plus k [] = none
+drained none plus k (d ∷ done) = cond (eqb (d .0) k) (plus (drained none plus k done) (d .1)) (drained none plus k done)
+
+-- down: the number that element i (counted from 0) drains into; cell: its new cell from what drains into it and its old cell
+module _ {A : Type 0} (none : A) (plus : A → A → A) (down : ℕ → ℕ) (cell : ℕ → A → A → A) (old : ℕ → A) where
+  -- the first i elements done, the latest first
+  unfoldable pub walked : ℕ → List (ℕ × A)
+  walked zero = []
+  walked (suc i) =
+      let done : List (ℕ × A) = walked i in (down i, cell i (drained none plus (i + 1) done) (old i)) ∷ done
+
+  -- what drains into element i, and its new cell
+  unfoldable pub gathered : ℕ → A
+  gathered i = drained none plus (i + 1) (walked i)
+
+  unfoldable pub newCell : ℕ → A
+  newCell i = cell i (gathered i) (old i)

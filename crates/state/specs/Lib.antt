@@ -1,0 +1,4 @@
+pub mod States
+pub mod Rules
+pub mod Start
+pub mod Answers

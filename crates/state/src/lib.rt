@@ -1,0 +1,98 @@
+ghost use mathlib.Core.Path.{_≡_};
+ghost use Prim.Native.Nat.{_≤_};
+ghost use Rattle.fields.specs.Ranges.{allBelow};
+ghost use Rattle.table.specs.InUse.{valuesOf};
+ghost use Rattle.state.specs.States.{placeOf};
+ghost use Rattle.state.specs.Rules.{figuresFit, rainsFit, placeFits, stateFits, stepsLeft};
+use method::Figures;
+use table::Table;
+use table::Verdict;
+use units::Discharge;
+use units::Variance;
+
+pub mod first_values; // first_values.rt: the state that a start leaves
+
+// A basin's last three rains, the latest first.
+pub struct Rains {
+    pub first: u64,
+    pub second: u64,
+    pub third: u64,
+}
+
+// What the state keeps of one element.
+pub struct ElementState {
+    pub figures: Figures,
+    pub rains: Rains,
+}
+
+// The river's state: its first N places are in use.
+pub struct State {
+    pub elements: usize,
+    pub steps: u64,
+    pub element: [ElementState; 64],
+}
+
+// The state after a call, as it was before where the call is refused.
+pub struct StateAnswer {
+    pub verdict: Verdict,
+    pub state: State,
+}
+
+fn figures_fit(f: Figures) -> bool
+    ensures { λ r. ⌜ r ≡ figuresFit f ⌝ }
+{
+    let q = f.discharge;
+    let e = f.discharge_margin;
+    let v = f.variance;
+    let d = f.variance_margin;
+    (q.0 <= Discharge::CEILING)
+        & (e.0 <= Discharge::CEILING)
+        & (v.0 <= Variance::CEILING)
+        & (d.0 <= Variance::CEILING)
+}
+
+fn rains_fit(r: Rains) -> bool
+    ensures { λ x. ⌜ x ≡ rainsFit r ⌝ }
+{
+    (r.first <= 3_000) & (r.second <= 3_000) & (r.third <= 3_000)
+}
+
+// Rule 8 on one element: the rains of a basin alone are read.
+fn place_fits(kind: u64, place: ElementState) -> bool
+    ensures { λ r. ⌜ r ≡ placeFits kind place ⌝ }
+{
+    let figures = place.figures;
+    let rains = place.rains;
+    match kind {
+        1 => figures_fit(figures) & rains_fit(rains),
+        _ => figures_fit(figures),
+    }
+}
+
+fn places_fit(table: Table, state: State) -> bool
+    requires { ⌜ table .elements ≤ 64 ⌝ }
+    ensures { λ r. ⌜ r ≡ allBelow (λ i. placeFits (valuesOf table .element i .kind) (placeOf state i)) (table .elements) ⌝ }
+{
+    let n = table.elements;
+    let mut fit = true;
+    for i in 0..n {
+        let e = table.element[i];
+        fit = fit & place_fits(e.kind, state.element[i]);
+    }
+    fit
+}
+
+// Rule 8.
+pub fn state_fits(table: Table, state: State) -> bool
+    requires { ⌜ table .elements ≤ 64 ⌝ }
+    ensures { λ r. ⌜ r ≡ stateFits (valuesOf table) state ⌝ }
+{
+    (state.elements == table.elements) & (state.steps <= 10_000) & places_fit(table, state)
+}
+
+// Rule 9.
+pub fn steps_left(state: State) -> bool
+    ensures { λ r. ⌜ r ≡ stepsLeft state ⌝ }
+{
+    state.steps != 10_000
+}

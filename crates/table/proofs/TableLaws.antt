@@ -1,0 +1,184 @@
+-- Laws of rules 1 to 7: what follows them decides where they accept, and what callers may then rely on.
+use Prim.{Unit}
+use Prim.Native.Nat.{ℕ, _≤_}
+use mathlib.Core.Bool.{Bool, true, false, not}
+use mathlib.Core.List.{List}
+use mathlib.Core.Path.{_≡_, refl, sym, _∙_}
+use borrow.Author.Tests.{not-true, not-false}
+use native.Mathlib.Omega.{arith}
+use Rattle.refusal.specs.Answers.{Answer, accepted, refused, andThen, rule}
+use Rattle.fields.specs.Bytes.{byteAt, number16}
+use Rattle.fields.specs.Ranges.{inRange, allBelow}
+use Rattle.fields.proofs.RangeLaws.{all-four, range-bounds, all-at}
+use Rattle.elements.specs.Elements.{elementAt}
+use Rattle.elements.specs.Rules.{elementFits, downFits}
+use Rattle.elements.proofs.ElementLaws.{element-bounds}
+use Rattle.gauges.specs.Gauges.{gaugeAt}
+use Rattle.gauges.specs.Rules.{gaugeFits}
+use Rattle.gauges.proofs.GaugeLaws.{gauge-bounds}
+use Rattle.table.specs.Tables.{TableValues, tableOf}
+use Rattle.table.specs.Rules.{lengthFits, versionFits, countsFit, sizeFits, tableRules}
+use Rattle.table.specs.Bounds.{TableBounds}
+
+-- an answer is not both
+pub not-both : {A : Type 0} {answer : Answer A} {a : A} {k : ℕ} → answer ≡ accepted a → answer ≡ refused k → ⊥
+not-both p q = let z : _≡_ {A = ℕ} 0 1 = cc in omega arith
+
+-- what follows a rule
+rule-then :
+    {A : Type 0} (n : ℕ) (kept : Bool) (r : Answer Unit) (rest : Answer A)
+    → andThen (rule n kept r) (λ _. rest) ≡ rule n kept (andThen r (λ _. rest))
+rule-then n true r rest = refl
+rule-then n false r rest = refl
+
+module _ {A : Type 0} (bytes : List ℕ) (rest : Answer A) where
+  rules-then : andThen (tableRules {A = Unit} bytes (accepted tt)) (λ _. rest) ≡ tableRules bytes rest
+  unfolding tableRules
+  rules-then = simp rule-then
+
+  pub rules-accepted : tableRules {A = Unit} bytes (accepted tt) ≡ accepted tt → tableRules bytes rest ≡ rest
+  rules-accepted h = rw (← rules-then, h)
+
+  pub rules-refused : {k : ℕ} → tableRules {A = Unit} bytes (accepted tt) ≡ refused k → tableRules bytes rest ≡ refused k
+  rules-refused h = rw (← rules-then, h)
+
+-- rules 5 to 7 on all elements and gauges
+abbrev pub elementsFit : TableValues → Bool
+elementsFit t = allBelow (λ i. elementFits (t .step) (t .element i)) (t .elements)
+
+abbrev pub downsFit : TableValues → Bool
+downsFit t = allBelow (downFits (t .elements) (t .element)) (t .elements)
+
+abbrev pub gaugesFit : TableValues → Bool
+gaugesFit t = allBelow (gaugeFits (t .elements) (t .gauge)) (t .gauges)
+
+abbrev pub rulesLeft : {A : Type 0} → TableValues → Answer A → Answer A
+rulesLeft t rest = rule 5 (elementsFit t) (rule 6 (downsFit t) (rule 7 (gaugesFit t) rest))
+
+-- rules 1 to 4, the header's, and rules 1 to 7 are kept
+pub record HeaderKept (bytes : List ℕ) : Type 0 where
+  pub length : lengthFits bytes ≡ true
+  pub version : versionFits bytes ≡ true
+  pub counts : countsFit (tableOf bytes) ≡ true
+  pub size : sizeFits bytes (tableOf bytes) ≡ true
+
+pub record RulesKept (bytes : List ℕ) : Type 0 where
+  pub header : HeaderKept bytes
+  pub elements : elementsFit (tableOf bytes) ≡ true
+  pub downs : downsFit (tableOf bytes) ≡ true
+  pub gauges : gaugesFit (tableOf bytes) ≡ true
+
+rule-kept :
+    {A : Type 0} (n : ℕ) (kept : Bool) (r : Answer A) {a : A}
+    → rule n kept r ≡ accepted a
+    → (kept ≡ true) × (r ≡ accepted a)
+rule-kept n true r h = (refl, h)
+rule-kept n false r h = absurd (not-both h refl)
+
+pub rules-kept : (bytes : List ℕ) → tableRules {A = Unit} bytes (accepted tt) ≡ accepted tt → RulesKept bytes
+unfolding tableRules
+rules-kept bytes h =
+    let a = rule-kept _ _ _ h in
+    let b = rule-kept _ _ _ (a .1) in
+    let c = rule-kept _ _ _ (b .1) in
+    let d = rule-kept _ _ _ (c .1) in
+    let e = rule-kept _ _ _ (d .1) in
+    let f = rule-kept _ _ _ (e .1) in
+    let g = rule-kept _ _ _ (f .1) in
+    record {
+      header = record { length = a .0; version = b .0; counts = c .0; size = d .0 };
+      elements = e .0;
+      downs = f .0;
+      gauges = g .0;
+    }
+
+-- the header leaves rules 5 to 7
+pub header-left :
+    {A : Type 0} (bytes : List ℕ) (rest : Answer A) → HeaderKept bytes → tableRules bytes rest ≡ rulesLeft (tableOf bytes) rest
+unfolding tableRules
+header-left bytes rest h = rw (h .length, h .version, h .counts, h .size)
+
+-- what rule 3 asks
+pub record CountsBounds (t : TableValues) : Type 0 where
+  pub stepLeast : 1 ≤ t .step
+  pub leadsLeast : 1 ≤ t .leads
+  pub leadsMost : t .leads ≤ 12
+  pub elementsLeast : 1 ≤ t .elements
+  pub elementsMost : t .elements ≤ 64
+  pub gaugesMost : t .gauges ≤ 16
+
+pub counts-bounds : (t : TableValues) → countsFit t ≡ true → CountsBounds t
+unfolding countsFit
+counts-bounds t h =
+    let leads = inRange (t .leads) 1 12 in
+    let elements = inRange (t .elements) 1 64 in
+    let k = all-four (inRange (t .step) 1 1440) leads elements (inRange (t .gauges) 0 16) h in
+    record {
+      stepLeast = range-bounds _ _ _ (k .0) .0;
+      leadsLeast = range-bounds _ _ _ (k .1 .0) .0;
+      leadsMost = range-bounds _ _ _ (k .1 .0) .1;
+      elementsLeast = range-bounds _ _ _ (k .1 .1 .0) .0;
+      elementsMost = range-bounds _ _ _ (k .1 .1 .0) .1;
+      gaugesMost = range-bounds _ _ _ (k .1 .1 .1) .1;
+    }
+
+pub table-bounds : (bytes : List ℕ) → tableRules {A = Unit} bytes (accepted tt) ≡ accepted tt → TableBounds (tableOf bytes)
+table-bounds bytes h =
+    let t = tableOf bytes in
+    let k = rules-kept bytes h in
+    let n = counts-bounds t (k .header .counts) in
+    record {
+      stepLeast = n .stepLeast;
+      leadsLeast = n .leadsLeast;
+      leadsMost = n .leadsMost;
+      elementsLeast = n .elementsLeast;
+      elementsMost = n .elementsMost;
+      gaugesMost = n .gaugesMost;
+      element = λ i l. element-bounds _ (t .element) i (t .step) (all-at _ _ i l (k .elements)) (all-at _ _ i l (k .downs));
+      gauge = λ g l. gauge-bounds _ (t .gauge) g (all-at _ _ g l (k .gauges));
+    }
+
+-- the fields of the header that the code reads
+module _ (bytes : List ℕ) where
+  pub elements-read : byteAt bytes 8 ≡ tableOf bytes .elements
+  unfolding tableOf
+  elements-read = refl
+
+  pub gauges-read : byteAt bytes 9 ≡ tableOf bytes .gauges
+  unfolding tableOf
+  gauges-read = refl
+
+  -- rule 5 on the elements at the step and the count that were read
+  pub elements-judged :
+      {step n : ℕ} {fit : Bool}
+      → step ≡ number16 bytes 5
+      → n ≡ byteAt bytes 8
+      → fit ≡ allBelow (λ i. elementFits step (elementAt bytes i)) n
+      → fit ≡ elementsFit (tableOf bytes)
+  unfolding tableOf
+  elements-judged s n h = rw (← s, ← n) h
+
+  -- rules 6 and 7 at the counts that were read
+  pub downs-judged :
+      {n : ℕ} {fit : Bool}
+      → n ≡ byteAt bytes 8
+      → fit ≡ allBelow (downFits n (elementAt bytes)) n
+      → fit ≡ downsFit (tableOf bytes)
+  unfolding tableOf
+  downs-judged n h = rw (← n) h
+
+  pub gauges-judged :
+      {n m : ℕ} {fit : Bool}
+      → n ≡ byteAt bytes 8
+      → m ≡ byteAt bytes 9
+      → fit ≡ allBelow (gaugeFits n (gaugeAt bytes n)) m
+      → fit ≡ gaugesFit (tableOf bytes)
+  unfolding tableOf
+  gauges-judged n m h = rw (← n, ← m) h
+
+-- a test that the code worked out and found kept, or broken
+pub kept : {fit test : Bool} → fit ≡ test → not fit ≡ false → test ≡ true
+kept {fit} e h = sym e ∙ not-false fit h
+
+pub broken : {fit test : Bool} → fit ≡ test → not fit ≡ true → test ≡ false
+broken {fit} e h = sym e ∙ not-true fit h
