@@ -4,10 +4,16 @@ use Rattle.weighting.specs.Weight.{turned, weight}
 use Rattle.weighting.specs.Blend.{weightedMean, gapOf, blended}
 use Rattle.rating.specs.Rating.{pieceFor, depth, dischargeAt, onPiece, rated}
 use Rattle.method.specs.Correction.{gain, gainMargin, correctedDischarge, correctedVariance, corrected}
+use Rattle.fields.specs.Ranges.{allBelow}
+use Rattle.elements.specs.Elements.{elementAt}
+use Rattle.elements.specs.Rules.{basinFits, reachFits, kindFits, elementFits, downFits}
+use Rattle.table.specs.Tables.{tableOf}
+use Rattle.table.specs.Rules.{lengthFits, versionFits, countsFit, sizeFits, tableRules}
+use Rattle.engine.specs.Entries.{startAnswer}
 use Rattle.figures.specs.Starred.{Starred}
 
 pub starred : Starred
-unfolding turned weight weightedMean gapOf blended pieceFor depth dischargeAt onPiece rated gain gainMargin correctedDischarge correctedVariance corrected
+unfolding turned weight weightedMean gapOf blended pieceFor depth dischargeAt onPiece rated gain gainMargin correctedDischarge correctedVariance corrected allBelow elementAt basinFits reachFits kindFits elementFits downFits tableOf lengthFits versionFits countsFit sizeFits tableRules startAnswer
 starred =
     record {
       weight-of-an-hour = refl;
@@ -21,4 +27,5 @@ starred =
       stage-499 = refl;
       stage-below-top = λ a₁ a₂ b₁ b₂. refl;
       stage-at-top = λ a₁ a₂ b₁ b₂. refl;
+      down-to-itself = λ s. refl;
     }

@@ -13,6 +13,8 @@ use Rattle.rating.specs.declared.Piece.{Piece}
 use Rattle.rating.specs.Rating.{pieceFor, rated}
 use Rattle.method.specs.Figures.{figures}
 use Rattle.method.specs.Correction.{gain, corrected}
+use Rattle.state.specs.declared.State.{State}
+use Rattle.engine.specs.Entries.{startAnswer}
 
 -- a piece of a rating curve: top, a and b
 abbrev pub piece : ℕ → ℕ → Offset → Piece
@@ -21,6 +23,12 @@ piece top a b = record { top = record { 0 = top }; factor = a; offset = b }
 -- a 20,000, b −500
 abbrev pub curve : List Piece
 curve = piece 30_001 20_000 (Minus 500) ∷ []
+
+-- the table of document 01's example, with this down of its one element
+abbrev pub oneBasin : ℕ → List ℕ
+oneBasin down =
+    0 ∷ 0 ∷ 0 ∷ 32 ∷ 1 ∷ 0 ∷ 60 ∷ 1 ∷ 1 ∷ 0
+    ∷ 1 ∷ down ∷ 0 ∷ 60 ∷ 0 ∷ 0 ∷ 14 ∷ 16 ∷ 3 ∷ 232 ∷ 0 ∷ 0 ∷ 0 ∷ 0 ∷ 0 ∷ 0 ∷ 0 ∷ 0 ∷ 0 ∷ 0 ∷ 0 ∷ 0 ∷ 0 ∷ 0 ∷ 3 ∷ 232 ∷ []
 
 pub record Starred : Type 0 where
   -- "T 60, lag 60: H 367,879,441."
@@ -48,3 +56,5 @@ pub record Starred : Type 0 where
   pub stage-at-top :
       (a₁ a₂ : ℕ) (b₁ b₂ : Offset)
       → pieceFor 1_000 (piece 1_000 a₁ b₁ ∷ piece 30_001 a₂ b₂ ∷ []) ≡ accepted (piece 30_001 a₂ b₂)
+  -- "Element 1 with down 1: 6."
+  pub down-to-itself : (s : State) → startAnswer (oneBasin 1) s ≡ refused 6
