@@ -5,7 +5,7 @@ use mathlib.Core.Bool.{Bool, true, false, not}
 use mathlib.Core.List.{List}
 use mathlib.Core.Path.{_≡_, refl, sym, _∙_}
 use borrow.Author.Tests.{not-true, not-false}
-use native.Mathlib.Omega.{arith}
+use Rattle.refusal.proofs.RuleLaws.{rule-then, rule-kept}
 use Rattle.refusal.specs.Answers.{Answer, accepted, refused, andThen, rule}
 use Rattle.fields.specs.Bytes.{byteAt, number16}
 use Rattle.fields.specs.Ranges.{inRange, allBelow}
@@ -19,17 +19,6 @@ use Rattle.gauges.proofs.GaugeLaws.{gauge-bounds}
 use Rattle.table.specs.Tables.{TableValues, tableOf}
 use Rattle.table.specs.Rules.{lengthFits, versionFits, countsFit, sizeFits, tableRules}
 use Rattle.table.specs.Bounds.{TableBounds}
-
--- an answer is not both
-pub not-both : {A : Type 0} {answer : Answer A} {a : A} {k : ℕ} → answer ≡ accepted a → answer ≡ refused k → ⊥
-not-both p q = let z : _≡_ {A = ℕ} 0 1 = cc in omega arith
-
--- what follows a rule
-rule-then :
-    {A : Type 0} (n : ℕ) (kept : Bool) (r : Answer Unit) (rest : Answer A)
-    → andThen (rule n kept r) (λ _. rest) ≡ rule n kept (andThen r (λ _. rest))
-rule-then n true r rest = refl
-rule-then n false r rest = refl
 
 module _ {A : Type 0} (bytes : List ℕ) (rest : Answer A) where
   rules-then : andThen (tableRules {A = Unit} bytes (accepted tt)) (λ _. rest) ≡ tableRules bytes rest
@@ -67,13 +56,6 @@ pub record RulesKept (bytes : List ℕ) : Type 0 where
   pub elements : elementsFit (tableOf bytes) ≡ true
   pub downs : downsFit (tableOf bytes) ≡ true
   pub gauges : gaugesFit (tableOf bytes) ≡ true
-
-rule-kept :
-    {A : Type 0} (n : ℕ) (kept : Bool) (r : Answer A) {a : A}
-    → rule n kept r ≡ accepted a
-    → (kept ≡ true) × (r ≡ accepted a)
-rule-kept n true r h = (refl, h)
-rule-kept n false r h = absurd (not-both h refl)
 
 pub rules-kept : (bytes : List ℕ) → tableRules {A = Unit} bytes (accepted tt) ≡ accepted tt → RulesKept bytes
 unfolding tableRules

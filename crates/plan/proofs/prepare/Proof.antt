@@ -1,6 +1,6 @@
 -- `prepare` meets its contract.
 use borrow.Author.Needs.{needs}
-use Rattle.table.proofs.TableLaws.{not-both}
+use Rattle.refusal.proofs.RuleLaws.{not-both}
 use Rattle.table.proofs.HeldLaws.{table-accepted, table-refused}
 use Rattle.plan.proofs.prepare.Statement.{statement}
 use Rattle.plan.proofs.prepare.Tie as tie

@@ -2,7 +2,8 @@
 use mathlib.Core.Path.{ap, sym, _∙_}
 use borrow.Author.Needs.{needs}
 use Rattle.table.specs.Verdicts.{verdictAnswer}
-use Rattle.table.proofs.TableLaws.{not-both, table-bounds}
+use Rattle.refusal.proofs.RuleLaws.{not-both}
+use Rattle.table.proofs.TableLaws.{table-bounds}
 use Rattle.table.proofs.read.Statement.{statement}
 use Rattle.table.proofs.read.Tie as tie
 
