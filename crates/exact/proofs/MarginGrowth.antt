@@ -1,22 +1,10 @@
 -- How much a blend adds to the margins.
-use Prim.Native.Nat.{ℕ, _+_, _-_, _*_, _≤_}
-use mathlib.Core.Path.{_≡_}
-use native.Mathlib.Nat.{mul-le-mul-left, div-le-of-le-mul}
+use Prim.Native.Nat.{ℕ, _+_, _-_, _≤_}
 use native.Mathlib.Omega.{arith}
 use Rattle.units.specs.Units.{C, S}
 use Rattle.weighting.specs.declared.Estimate.{Estimate}
-use Rattle.weighting.specs.Blend.{weightedMean, gapOf, blended}
-use Rattle.exact.proofs.FractionParts.{times}
-
--- a mean is at most the larger
-mean-at-most : (w e e′ m : ℕ) → w ≤ S → e ≤ m → e′ ≤ m → weightedMean w e e′ ≤ m
-unfolding weightedMean
-mean-at-most w e e′ m h l l′ =
-    div-le-of-le-mul S {m = w * e + (S - w) * e′} {n = m}
-    (omega (arith, mul-le-mul-left w l, mul-le-mul-left (S - w) l′, times m all))
-  where
-    all : w + (S - w) ≡ S
-    all = omega arith
+use Rattle.weighting.proofs.BlendLaws.{mean-le}
+use Rattle.weighting.specs.Blend.{gapOf, blended}
 
 gap-at-most : (x y m : ℕ) → x ≤ m → y ≤ m → gapOf x y ≤ m
 unfolding gapOf
@@ -36,6 +24,6 @@ unfolding blended
 blend-growth w m x y most vx vy mx my small =
     omega (
       arith,
-      mean-at-most w (x .margin) (y .margin) m most mx my,
+      mean-le w (x .margin) (y .margin) m most mx my,
       gap-at-most (x .value) (y .value) C vx vy,
     )

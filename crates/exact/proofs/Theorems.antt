@@ -19,30 +19,15 @@ use Rattle.rating.specs.Rating.{rated}
 use Rattle.method.specs.Correction.{corrected}
 use Rattle.exact.specs.Fraction.{Fraction, whole, _⊗_, _≼_, Within}
 use Rattle.exact.specs.Series.{F}
-use Rattle.exact.specs.Exact.{
-  ExactFigures,
-  exactBlend,
-  exactRouted,
-  exactCorrected,
-  exactRated,
-  exactStepInflow,
-  exactForecastInflow,
-  exactNothing,
-  exactSum,
-}
+use Rattle.exact.specs.Exact.{ExactFigures, exactBlend, exactRouted, exactCorrected, exactRated, exactStepInflow, exactForecastInflow, exactNothing, exactSum}
 use Rattle.exact.specs.Margins.{Tracks, Follows}
 use Rattle.exact.proofs.Tracking.{whole-tracks}
 use Rattle.exact.proofs.Weights.{Share, share, share-within, share-least, share-most}
-use Rattle.exact.proofs.WeightNear.{weight-at-most, weight-share}
+use Rattle.exact.proofs.WeightNear.{weight-share}
 use Rattle.exact.proofs.BlendNear.{blend-tracks}
 use Rattle.exact.proofs.CorrectionNear.{corrected-follows}
 use Rattle.exact.proofs.RatingNear.{Answered, rated-tracks}
-use Rattle.exact.proofs.InflowNear.{
-  step-inflow-follows,
-  forecast-inflow-follows,
-  no-inflow-follows,
-  joined-inflow-follows,
-}
+use Rattle.exact.proofs.InflowNear.{step-inflow-follows, forecast-inflow-follows, no-inflow-follows, joined-inflow-follows}
 use Rattle.exact.proofs.RoutingNear.{routed-follows}
 use Rattle.exact.proofs.MarginGrowth.{blend-growth}
 
@@ -149,7 +134,3 @@ pub routing-margin-growth :
 unfolding routedDischarge
 routing-margin-growth H m inflow old most vi vo mi mo small =
     blend-growth H m (discharge old) (discharge inflow) most vo vi mo mi small
-
--- a weight is at most S
-pub weight-most : (T lag : ℕ) → weight T lag ≤ S
-weight-most = weight-at-most

@@ -6,22 +6,11 @@ use native.Mathlib.Nat.{mul-pos, mul-le-mul, mul-le-mul-right, div-le-of-le-mul,
 use native.Mathlib.Omega.{arith}
 use Rattle.units.specs.Units.{S}
 use Rattle.weighting.specs.Estimates.{estimate}
+use Rattle.weighting.proofs.WeightLaws.{weight-most}
 use Rattle.weighting.specs.Weight.{turned, weight}
 use Rattle.exact.specs.Fraction.{Fraction, whole, minus, _⊕_, _⊘_}
 use Rattle.exact.specs.Series.{power, factorial, sum, seriesTerm, F}
-use Rattle.exact.proofs.FractionParts.{
-  Is,
-  times,
-  is-also,
-  is-same,
-  is-lower,
-  is-scaled,
-  is-whole,
-  is-sum,
-  is-product,
-  is-minus,
-  is-quotient,
-}
+use Rattle.exact.proofs.FractionParts.{Is, times, is-also, is-same, is-lower, is-scaled, is-whole, is-sum, is-product, is-minus, is-quotient}
 use Rattle.exact.proofs.Tracking.{Near}
 use Rattle.exact.proofs.Weights.{Share}
 
@@ -61,15 +50,6 @@ turn-near T c d h n n′ e some t most a b k =
     (omega (arith, lt-div-mul-add {a = T * h} some))
     (omega (arith, div-le-of-le-mul c {m = T * h} {n = S} (mul-le-mul t most)))
     k
-
-turned-most : (T lag h m : ℕ) → h ≤ S → turned T lag h m ≤ S
-unfolding turned
-turned-most T lag h zero l = l
-turned-most T lag h (suc m) l = turned-most T lag (S - T * h / (lag * suc m)) m (omega arith)
-
-pub weight-at-most : (T lag : ℕ) → weight T lag ≤ S
-unfolding weight
-weight-at-most T lag = turned-most T lag S 12 (omega arith)
 
 -- ---- the numbers of the nested form and of the powers
 
@@ -207,5 +187,5 @@ module _ (T lag : ℕ) (le : T ≤ lag) (some : 0 < lag) where
         is = is-F;
         sum = omega (arith, upper-at-most 0 12);
         near = weight-close;
-        most = weight-at-most T lag;
+        most = weight-most T lag;
       }

@@ -1,3 +1,4 @@
 pub mod Walk
 pub mod Step
 pub mod Bounds
+pub mod Forecast

@@ -1,0 +1,218 @@
+-- One step or lead of the network: where no reading has come in at or above an element, 16 × n × c becomes 16 × (n + 1) × c.
+use Prim.Native.Nat.{ℕ, zero, suc, _+_, _*_, _≤_, _<_}
+use mathlib.Core.Bool.{Bool, true, false, cond}
+use mathlib.Core.List.{List}
+use mathlib.Core.Logic.{_⊎_, ⊎-elim}
+use mathlib.Core.Path.{_≡_, refl, sym, subst, _∙_}
+use borrow.Author.Tests.{eqb-true}
+use native.Mathlib.Nat.{mul-le-mul, mul-le-mul-left, eq-or-lt-of-le}
+use native.Mathlib.Numerals.{add-one}
+use native.Mathlib.Omega.{arith}
+use lib.Dec.{eqb}
+use Rattle.units.specs.Units.{C, S}
+use Rattle.method.specs.declared.Figures.{Figures}
+use Rattle.method.specs.Figures.{discharge}
+use Rattle.method.specs.Inflow.{noInflow, joinedInflow}
+use Rattle.method.specs.Routing.{routed}
+use Rattle.exact.proofs.Theorems.{routing-margin-growth}
+use Rattle.weighting.proofs.WeightLaws.{weight-most}
+use Rattle.table.specs.Tables.{TableValues}
+use Rattle.table.specs.Bounds.{TableBounds}
+use Rattle.record.specs.declared.Observation.{Observation}
+use Rattle.record.specs.declared.Observation.the-variants.{Nothing}
+use Rattle.plan.specs.Plans.{weightOf}
+use Rattle.network.specs.Walk.{drained, walked, gathered, newCell}
+use Rattle.network.specs.Step.{inflowOf, correctedBy, moved, elementStep, networkDown, networkCell, aboveOf, newFigures}
+use Rattle.exact_run.specs.Limit.{next, atOrAbove, Quiet}
+use Rattle.exact_run.proofs.AboveLaws.{total, same, one, total-longer, above-most, above-sum, quiet-here, quiet-above}
+
+abbrev marginOf : Figures → ℕ
+marginOf f = f .«discharge_margin» .0
+
+-- the numbers of one move: d is how many are above the element
+move-limit :
+    (H n d : ℕ) (inflow old : Figures)
+    → H ≤ S
+    → suc n ≤ 10_012
+    → suc d ≤ 64
+    → inflow .discharge .0 ≤ C
+    → old .discharge .0 ≤ C
+    → marginOf inflow ≤ 16 * suc n * d + 1
+    → marginOf old ≤ 16 * n * suc d
+    → (W : ℕ)
+    → marginOf (routed H W inflow old) ≤ 16 * suc n * suc d
+unfolding routed
+move-limit H n d inflow old h ln ld vi vo mi mo W =
+    omega (
+      arith,
+      routing-margin-growth H (16 * n * d + 16 * n + 16 * d + 1) inflow old h vi vo (omega (arith, mi)) (omega (arith, mo))
+          (omega (arith, mul-le-mul ln ld)),
+    )
+
+-- the inflow's margin: a basin's own, or what is gathered
+inflow-margin :
+    (kind m : ℕ) (own above : Figures)
+    → marginOf own ≤ 1
+    → marginOf above ≤ m
+    → marginOf (inflowOf kind own above) ≤ m + 1
+unfolding inflowOf
+inflow-margin kind m own above p q = go (eqb kind 1)
+  where
+    go : (basin : Bool) → marginOf (cond basin own above) ≤ m + 1
+    go true = omega arith
+    go false = omega arith
+
+not-corrected : (o : Observation) (x : Figures) → o ≡ Nothing → correctedBy o x ≡ x
+unfolding correctedBy
+not-corrected o x e = rw e refl
+
+still : (a b : Bool) → (a ≡ true → b ≡ true) → b ≡ false → a ≡ false
+still true b f e = sym (f refl) ∙ e
+still false b f e = refl
+
+-- quiet after, quiet before
+quiet-before :
+    (n : ℕ) (down : ℕ → ℕ) (heard heard′ : ℕ → Bool) (i : ℕ)
+    → ((k : ℕ) → heard k ≡ true → heard′ k ≡ true)
+    → Quiet n down heard′ i
+    → Quiet n down heard i
+quiet-before n down heard heard′ i f q = record { silent = λ k u v p. still (heard k) (heard′ k) (f k) (q .silent k u v p) }
+
+module _
+    (t : TableValues) (own : ℕ → Figures) (o : ℕ → Observation) (old : ℕ → Figures) (heard heard′ : ℕ → Bool) (n : ℕ)
+    (b : TableBounds t) (few : suc n ≤ 10_012)
+    (old-fits : (i : ℕ) → i < t .elements → old i .discharge .0 ≤ C)
+    (inflow-fits :
+    (i : ℕ) → i < t .elements → inflowOf (t .element i .kind) (own i) (aboveOf t own o old i) .discharge .0 ≤ C)
+    (own-margin : (i : ℕ) → i < t .elements → marginOf (own i) ≤ 1)
+    (heard-on : (k : ℕ) → heard k ≡ true → heard′ k ≡ true)
+    (unheard : (i : ℕ) → i < t .elements → heard′ (i + 1) ≡ false → o i ≡ Nothing)
+    (before :
+    (i : ℕ)
+    → i < t .elements
+    → Quiet (t .elements) (networkDown t) heard (i + 1)
+    → marginOf (old i) ≤ 16 * n * atOrAbove (t .elements) (networkDown t) (i + 1)) where
+  abbrev many : ℕ
+  many = t .elements
+
+  abbrev down : ℕ → ℕ
+  down = networkDown t
+
+  abbrev quiet : ℕ → Type 0
+  quiet k = Quiet many down heard′ k
+
+  down-most : (j : ℕ) → j < many → down j ≤ many
+  unfolding networkDown
+  down-most j l = b .element j l .down
+
+  down-later : (j : ℕ) → j < many → (down j ≡ 0) ⊎ (j + 1 < down j)
+  unfolding networkDown
+  down-later j l = b .element j l .later
+
+  -- the limit at element i
+  abbrev Low : ℕ → Type 0
+  Low i = quiet (suc i) → marginOf (newFigures t own o old i) ≤ 16 * suc n * atOrAbove many down (suc i)
+
+  -- how many are above number k by way of the first i elements
+  unfoldable aboveBy : ℕ → ℕ → ℕ
+  aboveBy k i = total (λ j. same (next down j) k * atOrAbove many down j) i
+
+  abbrev done : ℕ → List (ℕ × Figures)
+  done i = walked noInflow joinedInflow down (networkCell t own o) old i
+
+  drained-low :
+      (k : ℕ)
+      → 1 ≤ k
+      → k ≤ many
+      → quiet k
+      → (i : ℕ)
+      → i ≤ many
+      → ((j : ℕ) → j < i → Low j)
+      → marginOf (drained noInflow joinedInflow k (done i)) ≤ 16 * suc n * aboveBy k i
+  unfolding drained walked noInflow joinedInflow aboveBy total same one next newFigures newCell gathered
+  drained-low k h l q zero m low = omega arith
+  drained-low k h l q (suc i) m low =
+      go (drained-low k h l q i (omega arith) (λ j u. low j (omega arith))) (eqb (down i) k) refl
+    where
+      go :
+          marginOf (drained noInflow joinedInflow k (done i)) ≤ 16 * suc n * aboveBy k i
+          → (drains : Bool)
+          → eqb (down i) k ≡ drains
+          → marginOf (cond drains (joinedInflow (drained noInflow joinedInflow k (done i)) (newFigures t own o old i)) (drained noInflow joinedInflow k (done i)))
+          ≤ 16 * suc n * (aboveBy k i + cond drains 1 0 * atOrAbove many down (suc i))
+      go so-far true e =
+          omega (
+            arith,
+            so-far,
+            low i (omega arith) (quiet-above many down down-most down-later heard′ (suc i) k h l (eqb-true (down i) k e) q),
+          )
+      go so-far false e = omega (arith, so-far)
+
+  cell-low : (i : ℕ) → i < many → ((j : ℕ) → j < i → Low j) → Low i
+  unfolding newFigures newCell networkCell elementStep moved weightOf aboveOf gathered aboveBy
+  cell-low i l low q =
+      subst (λ (x : Figures). marginOf x ≤ 16 * suc n * atOrAbove many down (suc i))
+      (sym (not-corrected (o i) _ (unheard i l silent)))
+      (go (atOrAbove many down (suc i)) refl)
+    where
+      silent : heard′ (i + 1) ≡ false
+      silent =
+          subst (λ (k : ℕ). heard′ k ≡ false) (sym (add-one i))
+          (quiet-here many down down-most down-later heard′ (suc i) (omega arith) l q)
+
+      old-low : marginOf (old i) ≤ 16 * n * atOrAbove many down (suc i)
+      old-low =
+          subst (λ (k : ℕ). Quiet many down heard k → marginOf (old i) ≤ 16 * n * atOrAbove many down k) (add-one i)
+          (before i l) (quiet-before many down heard heard′ (suc i) heard-on q)
+
+      fewer : aboveBy (suc i) i + 1 ≤ atOrAbove many down (suc i)
+      fewer =
+          omega (
+            arith,
+            above-sum many down down-most down-later (suc i) (omega arith) l,
+            total-longer (λ j. same (next down j) (suc i) * atOrAbove many down j) i many (omega arith),
+          )
+
+      at-most : (d : ℕ) → atOrAbove many down (suc i) ≡ suc d → aboveBy (suc i) i ≤ d
+      at-most d e = omega (arith, fewer)
+
+      gathered-by : marginOf (aboveOf t own o old i) ≤ 16 * suc n * aboveBy (suc i) i
+      gathered-by =
+          subst (λ (k : ℕ). marginOf (drained noInflow joinedInflow k (done i)) ≤ 16 * suc n * aboveBy (suc i) i)
+          (sym (add-one i)) (drained-low (suc i) (omega arith) l q i (omega arith) low)
+
+      gathered-low : (d : ℕ) → atOrAbove many down (suc i) ≡ suc d → marginOf (aboveOf t own o old i) ≤ 16 * suc n * d
+      gathered-low d e =
+          omega (
+            arith,
+            gathered-by,
+            mul-le-mul-left (16 * suc n) (at-most d e),
+          )
+
+      go :
+          (c : ℕ)
+          → atOrAbove many down (suc i) ≡ c
+          → marginOf (routed (weightOf t i) (t .element i .noise .0) (inflowOf (t .element i .kind) (own i) (aboveOf t own o old i)) (old i)) ≤ 16 * suc n * c
+      go zero e = absurd (omega (arith, fewer))
+      go (suc d) e =
+          move-limit (weightOf t i) n d _ (old i) (weight-most (t .step) (t .element i .lag)) few
+          (omega (arith, above-most many down (suc i), b .elementsMost)) (inflow-fits i l) (old-fits i l)
+          (inflow-margin (t .element i .kind) (16 * suc n * d) (own i) _ (own-margin i l) (gathered-low d e))
+          (subst (λ (c : ℕ). marginOf (old i) ≤ 16 * n * c) e old-low)
+          (t .element i .noise .0)
+
+  all-low : (m : ℕ) → m ≤ many → (j : ℕ) → j < m → Low j
+  all-low zero l j h = absurd (omega arith)
+  all-low (suc m) l j h =
+      ⊎-elim (λ e. subst Low (sym e) (cell-low m l (all-low m (omega arith))))
+      (λ u. all-low m (omega arith) j u) (eq-or-lt-of-le (omega arith))
+
+  -- one step or lead adds at most 16 for each element at or above
+  pub limit-step :
+      (i : ℕ)
+      → i < t .elements
+      → Quiet (t .elements) (networkDown t) heard′ (i + 1)
+      → newFigures t own o old i .«discharge_margin» .0 ≤ 16 * suc n * atOrAbove (t .elements) (networkDown t) (i + 1)
+  limit-step i l =
+      subst (λ (k : ℕ). quiet k → marginOf (newFigures t own o old i) ≤ 16 * suc n * atOrAbove many down k)
+      (sym (add-one i)) (all-low many (omega arith) i l)

@@ -1,0 +1,82 @@
+-- What an accepted record tells an element follows what it tells it in fractions.
+use Prim.{Unit}
+use Prim.Native.Nat.{ℕ, zero, suc, _+_, _≤_, _<_}
+use mathlib.Core.Bool.{Bool, true, false, cond}
+use mathlib.Core.List.{List}
+use mathlib.Core.Path.{_≡_, refl}
+use native.Mathlib.Omega.{arith}
+use lib.Dec.{eqb}
+use Rattle.refusal.specs.Answers.{Answer, accepted, refused}
+use Rattle.refusal.proofs.RuleLaws.{rule-kept}
+use Rattle.units.specs.declared.Discharge.{Discharge}
+use Rattle.rating.specs.Rating.{rated}
+use Rattle.exact.specs.Exact.{exactRated}
+use Rattle.exact.specs.Margins.{Follows}
+use Rattle.exact.proofs.Theorems.{rating-near, step-inflow-near}
+use Rattle.fields.specs.Ranges.{allBelow}
+use Rattle.fields.proofs.RangeLaws.{all-at}
+use Rattle.gauges.specs.declared.Gauge.{Gauge}
+use Rattle.gauges.specs.Bounds.{GaugeBounds}
+use Rattle.table.specs.Tables.{TableValues}
+use Rattle.table.specs.Bounds.{TableBounds}
+use Rattle.record.specs.declared.Observation.{Observation}
+use Rattle.record.specs.declared.Observation.the-variants.{Nothing}
+use Rattle.record.specs.declared.Reading.{Reading}
+use Rattle.record.specs.declared.Reading.the-variants.{At, Gap}
+use Rattle.record.specs.Records.{basinCount, piecesOf, readingAt, rateAnswer, observationOf, told, observationAt, atElement, inputRain, inputObservation, inputAt}
+use Rattle.record.specs.Rules.{isAccepted, lengthFits, versionFits, rainFits, stageFits, readingFits, recordRules}
+use Rattle.network.specs.Step.{stepOwn, observationIn}
+use Rattle.exact_run.specs.ExactStep.{ExactObservation, nothing, exactTold, exactObserved, exactObservationIn, exactOwn}
+use Rattle.exact_run.specs.Following.{Observes, no-reading, reading}
+
+-- one gauge whose reading rule 14 accepts
+module _ (n : ℕ) (gauge : Gauge) (b : GaugeBounds n gauge) where
+  rated-near :
+      (h : ℕ) (z : Answer Discharge)
+      → rated h (piecesOf (gauge .curve)) ≡ z
+      → isAccepted (rateAnswer (gauge .noise) z) ≡ true
+      → Observes (told (rateAnswer (gauge .noise) z)) (exactTold (gauge .noise .0) (exactRated h (piecesOf (gauge .curve))))
+  unfolding isAccepted rateAnswer told exactTold
+  rated-near h (accepted z) e ok =
+      let r = rating-near h (piecesOf (gauge .curve)) e in rw (r .same) (reading (b .noiseLeast) (r .near))
+  rated-near h (refused k) e ok = let z : _≡_ {A = ℕ} 0 1 = cc in absurd (omega arith)
+
+  observed-near :
+      (r : Reading) → isAccepted (observationOf gauge r) ≡ true → Observes (told (observationOf gauge r)) (exactObserved gauge r)
+  unfolding observationOf exactObserved told
+  observed-near Gap ok = no-reading
+  observed-near (At h) ok = rated-near (h .0) (rated (h .0) (piecesOf (gauge .curve))) refl ok
+
+module _ (t : TableValues) (bytes : List ℕ) (b : TableBounds t) (kept : recordRules {A = Unit} t bytes (accepted tt) ≡ accepted tt) where
+  accepted-reading : (g : ℕ) → g < t .gauges → isAccepted (observationOf (t .gauge g) (readingAt t bytes g)) ≡ true
+  unfolding recordRules readingFits
+  accepted-reading g l =
+      let r = rule-kept 10 (lengthFits bytes (basinCount t) (t .gauges)) _ kept .1 in
+      let s = rule-kept 11 (versionFits bytes) _ r .1 in
+      let u = rule-kept 12 (allBelow (rainFits bytes) (basinCount t)) _ s .1 in
+      let v = rule-kept 13 (allBelow (stageFits bytes (basinCount t)) (t .gauges)) _ u .1 in
+      all-at (readingFits t bytes) (t .gauges) g l (rule-kept 14 (allBelow (readingFits t bytes) (t .gauges)) _ v .0)
+
+  at-element :
+      (i m : ℕ)
+      → m ≤ t .gauges
+      → Observes (atElement t Nothing (observationAt t bytes) i m) (atElement t nothing (λ g. exactObserved (t .gauge g) (readingAt t bytes g)) i m)
+  unfolding atElement observationAt
+  at-element i zero l = no-reading
+  at-element i (suc g) l =
+      go (eqb (t .gauge g .element) (i + 1))
+      (observed-near (t .elements) (t .gauge g) (b .gauge g (omega arith)) (readingAt t bytes g) (accepted-reading g (omega arith)))
+      (at-element i g (omega arith))
+    where
+      go : (here : Bool) {o p : Observation} {o* p* : ExactObservation} → Observes o o* → Observes p p* → Observes (cond here o p) (cond here o* p*)
+      go true x y = x
+      go false x y = y
+
+  -- the observation and the own inflow of element i
+  pub observation-near : (i : ℕ) → Observes (observationIn (inputAt t bytes) i) (exactObservationIn t bytes i)
+  unfolding observationIn inputAt inputObservation exactObservationIn
+  observation-near i = at-element i (t .gauges) (omega arith)
+
+  pub own-near : (i : ℕ) → Follows (stepOwn t (inputAt t bytes) i) (exactOwn t bytes i)
+  unfolding stepOwn inputAt exactOwn
+  own-near i = step-inflow-near (inputRain t bytes i) (t .element i .area) (t .element i .runoff)

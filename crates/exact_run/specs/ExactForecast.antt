@@ -1,0 +1,27 @@
+-- Document 01, The run in fractions: "It has its own discharges, variances, step count and last three rains." and "a forecast
+-- works its leads from them and leaves them."
+use Prim.Native.Nat.{ℕ, zero, suc}
+use Rattle.exact.specs.Exact.{ExactFigures, exactForecastInflow}
+use Rattle.table.specs.Tables.{TableValues}
+use Rattle.state.specs.declared.Rains.{Rains}
+use Rattle.network.specs.Forecast.{rainCount, rainSum}
+use Rattle.exact_run.specs.ExactStep.{ExactObservation, nothing, exactNewFigures}
+
+pub record ExactState : Type 0 where
+  pub steps : ℕ
+  pub rains : ℕ → Rains
+  pub figures : ℕ → ExactFigures
+
+unfoldable pub exactForecastOwn : TableValues → ExactState → ℕ → ℕ → ExactFigures
+exactForecastOwn t x lead i =
+    let c : ℕ = rainCount (x .steps) in
+    exactForecastInflow (rainSum (x .rains i) c) c (t .element i .area) (t .element i .runoff) lead (t .element i .rain .0)
+
+unfoldable pub exactNoObservation : ℕ → ExactObservation
+exactNoObservation i = nothing
+
+-- the figures of each element at a lead; lead 0 is the state itself
+unfoldable pub exactLeadFigures : TableValues → ExactState → ℕ → ℕ → ExactFigures
+exactLeadFigures t x zero = x .figures
+exactLeadFigures t x (suc lead) =
+    exactNewFigures t (exactForecastOwn t x (suc lead)) exactNoObservation (exactLeadFigures t x lead)

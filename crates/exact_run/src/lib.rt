@@ -1,0 +1,1 @@
+// Definitions and theorems only: the step of the whole network in fractions.

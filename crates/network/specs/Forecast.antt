@@ -1,0 +1,44 @@
+-- Document 01, Forecast: "From the state, which is kept, leads 1 to L are steps without readings."
+use Prim.Native.Nat.{ℕ, zero, suc, _+_, min}
+use mathlib.Core.List.{List, [], _++_}
+use Rattle.method.specs.declared.Figures.{Figures}
+use Rattle.method.specs.Inflow.{forecastInflow}
+use Rattle.table.specs.Tables.{TableValues}
+use Rattle.record.specs.declared.Observation.{Observation}
+use Rattle.record.specs.declared.Observation.the-variants.{Nothing}
+use Rattle.state.specs.declared.Rains.{Rains}
+use Rattle.state.specs.declared.State.{State}
+use Rattle.state.specs.States.{placeOf}
+use Rattle.network.specs.Step.{newFigures, networkNumbers, figuresIn}
+
+-- "c is the smaller of 3 and the step count"
+unfoldable pub rainCount : ℕ → ℕ
+rainCount steps = min 3 steps
+
+-- "s the sum of the last c rains"
+unfoldable pub rainSum : Rains → ℕ → ℕ
+rainSum r zero = 0
+rainSum r (suc zero) = r .first
+rainSum r (suc (suc zero)) = r .first + r .second
+rainSum r (suc (suc (suc c))) = r .first + r .second + r .third
+
+-- "Basin inflow is [5 × s × area × f / (18 × c)] .. Its variance at the first lead is G, at the second 2 × G and so on"
+unfoldable pub forecastOwn : TableValues → State → ℕ → ℕ → Figures
+forecastOwn t s lead i =
+    let c : ℕ = rainCount (s .steps) in
+    forecastInflow (rainSum (placeOf s i .rains) c) c (t .element i .area) (t .element i .runoff) lead (t .element i .rain .0)
+
+unfoldable pub noObservation : ℕ → Observation
+noObservation i = Nothing
+
+-- the figures of each element at a lead; lead 0 is the state itself
+unfoldable pub leadFigures : TableValues → State → ℕ → ℕ → Figures
+leadFigures t s zero = figuresIn s
+leadFigures t s (suc lead) = newFigures t (forecastOwn t s (suc lead)) noObservation (leadFigures t s lead)
+
+-- 16, of the first leads
+unfoldable pub leadNumbers : TableValues → State → ℕ → List ℕ
+leadNumbers t s zero = []
+leadNumbers t s (suc lead) =
+    leadNumbers t s lead
+    ++ networkNumbers t (forecastOwn t s (suc lead)) noObservation (leadFigures t s lead) (t .elements)
