@@ -3,8 +3,9 @@ use Prim.{Unit}
 use Prim.Native.Nat.{ℕ, _≤_, _<_}
 use mathlib.Core.Bool.{true, false}
 use mathlib.Core.List.{List}
-use mathlib.Core.Path.{_≡_, sym, ap, subst, _∙_}
+use mathlib.Core.Path.{_≡_, refl, sym, ap, subst, _∙_}
 use borrow.Author.Tests.{leb-true}
+use native.Mathlib.Omega.{arith}
 use lib.Dec.{leb, eqb}
 use lib.ListN.{getD}
 use Rattle.refusal.specs.Refusals.{number}
@@ -20,7 +21,7 @@ use Rattle.table.specs.declared.Verdict.the-variants.{Accepted, Refused}
 use Rattle.table.specs.Verdicts.{verdictAnswer}
 use Rattle.table.specs.Tables.{TableValues}
 use Rattle.table.specs.Rules.{tableRules}
-use Rattle.table.specs.InUse.{valuesOf}
+use Rattle.table.specs.InUse.{valuesOf, tableIn}
 use Rattle.table.proofs.HeldLaws.{TableKnown}
 use Rattle.fields.proofs.RangeLaws.{both, all-three, all-four, all-at}
 use Rattle.table.proofs.InUseLaws.{below-used, below-same}
@@ -29,7 +30,7 @@ use Rattle.record.specs.declared.Input.{Input}
 use Rattle.record.specs.declared.InputsAnswer.{InputsAnswer}
 use Rattle.record.specs.Records.{inputAt}
 use Rattle.record.specs.Rules.{recordRules}
-use Rattle.record.specs.Decoded.{noInput, RecordRead}
+use Rattle.record.specs.Decoded.{noInput, InputFits, RecordRead}
 use Rattle.record.proofs.RecordLaws as record-laws
 use Rattle.state.specs.declared.State.{State}
 use Rattle.state.specs.declared.StateAnswer.{StateAnswer}
@@ -38,7 +39,11 @@ use Rattle.state.specs.Rules.{figuresFit, placeFits, stateFits, stepsLeft}
 use Rattle.state.specs.Start.{started}
 use Rattle.network.specs.Step.{stepped, stepNumbers}
 use Rattle.network.specs.Bounds.{inputsOf, InputsFit, FiguresUnder}
-use Rattle.engine.specs.Entries.{startAnswer, inputsIn, stepOnAnswer}
+use Rattle.engine.specs.Entries.{startAnswer, inputsIn, stepOnAnswer, forecastOnAnswer, forecastAnswer}
+use Rattle.leads.specs.declared.ForecastAnswer.{ForecastAnswer}
+use Rattle.leads.specs.declared.ForecastAnswer.the-variants as of-forecast
+use Rattle.leads.specs.Answer.{leadsAnswer}
+use Rattle.leads.specs.Lent.{countWritten, lentAfter, Lent}
 use Rattle.state.specs.Answers.{verdict, Answered}
 use Rattle.state.proofs.AnswerLaws.{answered-refused, answered-accepted}
 
@@ -86,30 +91,6 @@ module _ (t : TableValues) (bytes : List ℕ) (s : State) where
       unfolding stepOnAnswer
       record-accepted r = rw (h, l) (record-laws.rules-accepted t bytes _ r)
 
--- what rule 8 gives
-module _ (t : TableValues) (s : State) (h : stateFits t s ≡ true) where
-  pub steps-most : s .steps ≤ 10000
-  unfolding stateFits
-  steps-most = leb-true _ _ (all-three (eqb (s .elements) (t .elements)) (leb (s .steps) 10000) _ h .1 .0)
-
-  figures-under : (f : Figures) → figuresFit f ≡ true → FiguresFit f
-  unfolding figuresFit
-  figures-under f k =
-      let a = all-four (leb (f .discharge .0) C) (leb (f .«discharge_margin» .0) C) (leb (f .variance .0) C) (leb (f .«variance_margin» .0) C) k in
-      record {
-        discharge = leb-true _ _ (a .0);
-        dischargeMargin = leb-true _ _ (a .1 .0);
-        variance = leb-true _ _ (a .1 .1 .0);
-        varianceMargin = leb-true _ _ (a .1 .1 .1);
-      }
-
-  pub places-under : FiguresUnder s (t .elements)
-  unfolding stateFits placeFits
-  places-under =
-      record {
-        at = λ i l. figures-under _ (both (figuresFit (placeOf s i .figures)) _ (all-at (λ k. placeFits (t .element k .kind) (placeOf s k)) _ i l (all-three (eqb (s .elements) (t .elements)) (leb (s .steps) 10000) _ h .1 .1)) .0);
-      }
-
 -- what an accepted record gives
 module _ (table : Table) (bytes : List ℕ) (r : InputsAnswer) (h : RecordRead (valuesOf table) bytes r) (e : r .verdict ≡ Accepted) where
   pub record-kept : recordRules {A = Unit} (valuesOf table) bytes (accepted tt) ≡ accepted tt
@@ -123,12 +104,14 @@ module _ (table : Table) (bytes : List ℕ) (r : InputsAnswer) (h : RecordRead (
   unfolding inputsOf inputsIn valuesOf
   inputs-are = below-same (table .elements) noInput _ _ input-is
 
-  pub inputs-fit : InputsFit (r .input) (table .elements)
+  told-fits : (i : ℕ) → i < table .elements → InputFits (inputsOf (table .elements) (r .input) i)
   unfolding inputsOf valuesOf
+  told-fits i l =
+      rw (below-used (table .elements) noInput (λ k. getD (r .input) k noInput) i l, input-is i l) (h .fits record-kept i l)
+
+  pub inputs-fit : InputsFit (r .input) (table .elements)
   inputs-fit =
-      record {
-        at = λ i l. rw (below-used (table .elements) noInput (λ k. getD (r .input) k noInput) i l, input-is i l) (h .fits record-kept i l);
-      }
+      record { rain = λ i l. omega (arith, told-fits i l .rain); observation = λ i l. told-fits i l .observation }
 
 pub record-verdict :
     (table : Table) (bytes : List ℕ) (r : InputsAnswer)
@@ -166,3 +149,46 @@ pub answered-table :
     → Answered r (stepOnAnswer t bytes s) s
     → Answered r (stepOnAnswer t′ bytes s) s
 answered-table {r} t t′ bytes s e h = subst (λ (x : TableValues). Answered r (stepOnAnswer x bytes s) s) e h
+
+-- ---- the forecast
+
+pub lent-refused :
+    (out : List ℕ) (answer : Answer (List Figures)) (k : Refusal)
+    → answer ≡ refused (number k)
+    → Lent (of-forecast.Refused k) out answer out
+unfolding countWritten lentAfter
+lent-refused out answer k e = rw e (record { count = refl; numbers = refl })
+
+module _ (t : TableValues) (s : State) (room : ℕ) where
+  pub forecast-state-refused : stateFits t s ≡ false → forecastOnAnswer t s room ≡ refused 8
+  unfolding forecastOnAnswer
+  forecast-state-refused h = rw h
+
+  pub forecast-state-kept : stateFits t s ≡ true → forecastOnAnswer t s room ≡ leadsAnswer t s room
+  unfolding forecastOnAnswer
+  forecast-state-kept h = rw h
+
+-- an answer known by another name
+pub lent-as :
+    {r : ForecastAnswer} {after before : List ℕ} {a b : Answer (List Figures)} → a ≡ b → Lent r after b before → Lent r after a before
+lent-as {r} {after} {before} {a} {b} e h = subst (λ (x : Answer (List Figures)). Lent r after x before) (sym e) h
+
+-- the forecast on the bytes of an accepted table, and of a refused one
+pub lent-table :
+    {r : ForecastAnswer} {after before : List ℕ} (bytes : List ℕ) (t : TableValues) (s : State) (room : ℕ)
+    → tableRules {A = Unit} bytes (accepted tt) ≡ accepted tt
+    → t ≡ tableIn bytes
+    → Lent r after (forecastOnAnswer t s room) before
+    → Lent r after (forecastAnswer bytes s room) before
+unfolding forecastAnswer
+lent-table bytes t s room k e h =
+    lent-as (table-laws.rules-accepted bytes _ k ∙ ap (λ (x : TableValues). forecastOnAnswer x s room) (sym e)) h
+
+pub lent-table-refused :
+    (bytes : List ℕ) (s : State) (room : ℕ) (before : List ℕ) (v : Verdict) (k : Refusal)
+    → verdictAnswer v ≡ tableRules {A = Unit} bytes (accepted tt)
+    → v ≡ Refused k
+    → Lent (of-forecast.Refused k) before (forecastAnswer bytes s room) before
+unfolding forecastAnswer
+lent-table-refused bytes s room before v k h e =
+    lent-refused before _ k (table-laws.rules-refused bytes _ (sym h ∙ ap verdictAnswer e))

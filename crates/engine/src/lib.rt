@@ -1,9 +1,12 @@
 ghost use mathlib.Core.Path.{_≡_};
+ghost use lib.ListN.{length};
 ghost use Rattle.table.specs.declared.Verdict.the-variants.{Refused};
 ghost use Rattle.table.specs.InUse.{valuesOf};
 ghost use Rattle.plan.specs.Plans.{PlanFits};
-ghost use Rattle.engine.specs.Entries.{startAnswer, stepOnAnswer, stepAnswer};
+ghost use Rattle.engine.specs.Entries.{startAnswer, stepOnAnswer, stepAnswer, forecastOnAnswer, forecastAnswer};
+ghost use Rattle.leads.specs.Lent.{Lent};
 ghost use Rattle.state.specs.Answers.{Answered};
+use leads::ForecastAnswer;
 use plan::Plan;
 use refusal::Refusal;
 use state::State;
@@ -23,12 +26,12 @@ fn refused(refusal: Refusal, state: State) -> StateAnswer
 pub fn start(table: &[u8], state: State) -> StateAnswer
     ensures { λ r. ⌜ Answered r (startAnswer (now (table .entry)) state) state ⌝ }
 {
-    let read = table::read(table);
+    let read = table_reader::read(table);
     let verdict = read.verdict;
     let held = read.table;
     match verdict {
         Verdict::Accepted => {
-            let next = state::first_values::start_on(held, state);
+            let next = first_values::start_on(held, state);
             StateAnswer {
                 verdict,
                 state: next,
@@ -44,13 +47,13 @@ pub fn step_with(plan: Plan, bytes: &[u8], state: State) -> StateAnswer
     ensures { λ r. ⌜ Answered r (stepOnAnswer (valuesOf (plan .table)) (now (bytes .entry)) state) state ⌝ }
 {
     let table = plan.table;
-    if !state::state_fits(table, state) {
+    if !state_rules::state_fits(table, state) {
         return refused(Refusal::StateRange, state);
     }
     if !state::steps_left(state) {
         return refused(Refusal::StepLimit, state);
     }
-    let read = record::read(bytes, table, plan.basins);
+    let read = record_reader::read(bytes, table, plan.basins);
     let verdict = read.verdict;
     let input = read.input;
     match verdict {
@@ -69,5 +72,28 @@ pub fn step(table: &[u8], bytes: &[u8], state: State) -> StateAnswer
     match verdict {
         Verdict::Accepted => step_with(plan, bytes, state),
         Verdict::Refused(_) => StateAnswer { verdict, state },
+    }
+}
+
+// A forecast on a plan into lent space: rules 8, 15 and 16.
+pub fn forecast_with(plan: Plan, state: State, out: &mut [u64]) -> ForecastAnswer
+    requires { ⌜ PlanFits plan ⌝ }
+    ensures { λ r. ⌜ Lent r (now (out .exit)) (forecastOnAnswer (valuesOf (plan .table)) state (length (now (out .entry)))) (now (out .entry)) ⌝ }
+{
+    if !state_rules::state_fits(plan.table, state) {
+        return ForecastAnswer::Refused(Refusal::StateRange);
+    }
+    leads::forecast_on(plan, state, out)
+}
+
+// A forecast on the bytes of a table into lent space: rules 1 to 8, 15 and 16.
+pub fn forecast(table: &[u8], state: State, out: &mut [u64]) -> ForecastAnswer
+    ensures { λ r. ⌜ Lent r (now (out .exit)) (forecastAnswer (now (table .entry)) state (length (now (out .entry)))) (now (out .entry)) ⌝ }
+{
+    let prepared = plan::prepare(table);
+    let verdict = prepared.verdict;
+    match verdict {
+        Verdict::Accepted => forecast_with(prepared.plan, state, out),
+        Verdict::Refused(refusal) => ForecastAnswer::Refused(refusal),
     }
 }

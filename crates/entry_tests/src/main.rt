@@ -323,34 +323,36 @@ fn counts_beyond(s: State) {
     report(5, step_two(t));
 }
 
-// Another river's table; a ceiling passed; spoiled records.
-fn other_calls(s: State) {
-    report(16, engine::step(&ONE_BASIN, &[0, 3, 1, 0, 100], s));
+// A step on the table of one basin.
+fn step_one(call: u64, bytes: &[u8], s: State) {
+    report(call, engine::step(&ONE_BASIN, bytes, s));
+}
+
+// Another river's table; a ceiling passed.
+fn other_river(s: State) {
+    step_one(16, &[0, 3, 1, 0, 100], s);
     let a = engine::start(&ONE_BASIN, s);
-    let t = a.state;
     report(17, a);
-    report(18, engine::step(&ONE_BASIN, &[0, 3, 1, 11, 184], t));
-    report(19, engine::step(&TWO_ELEMENTS, &[0, 5], s));
-    report(
-        20,
-        engine::step(&TWO_ELEMENTS, &[0, 5, 2, 0, 100, 5, 120], s),
-    );
-    report(
-        21,
-        engine::step(&TWO_ELEMENTS, &[0, 5, 1, 11, 185, 117, 49], s),
-    );
-    report(
-        22,
-        engine::step(&TWO_ELEMENTS, &[0, 5, 1, 0, 100, 117, 49], s),
-    );
-    report(
-        23,
-        engine::step(&TWO_ELEMENTS, &[0, 5, 1, 0, 100, 1, 243], s),
-    );
-    report(
-        24,
-        engine::step(&TWO_ELEMENTS, &[0, 5, 1, 0, 100, 255, 255], s),
-    );
+    step_one(18, &[0, 3, 1, 11, 184], a.state);
+}
+
+// A step on the table of two elements with another record.
+fn step_with(call: u64, bytes: &[u8], s: State) {
+    report(call, engine::step(&TWO_ELEMENTS, bytes, s));
+}
+
+// Records of another length and version, a rain and a stage out of range.
+fn spoiled_records(s: State) {
+    step_with(19, &[0, 5], s);
+    step_with(20, &[0, 5, 2, 0, 100, 5, 120], s);
+    step_with(21, &[0, 5, 1, 11, 185, 117, 49], s);
+    step_with(22, &[0, 5, 1, 0, 100, 117, 49], s);
+}
+
+// A stage that the curve refuses, and a gap.
+fn other_stages(s: State) {
+    step_with(23, &[0, 5, 1, 0, 100, 1, 243], s);
+    step_with(24, &[0, 5, 1, 0, 100, 255, 255], s);
 }
 
 fn main() {
@@ -362,5 +364,7 @@ fn main() {
     counts_beyond(s);
     figures_beyond(s);
     rains_beyond(s);
-    other_calls(s);
+    other_river(s);
+    spoiled_records(s);
+    other_stages(s);
 }

@@ -7,8 +7,8 @@ use Rattle.table.specs.Tables.{TableValues}
 use Rattle.table.specs.Bounds.{TableBounds}
 use Rattle.state.specs.declared.State.{State}
 use Rattle.state.specs.States.{placeOf}
-use Rattle.network.specs.Step.{figuresIn}
-use Rattle.network.specs.Forecast.{forecastOwn, noObservation, leadFigures}
+use Rattle.network.specs.Step.{figuresIn, noObservation}
+use Rattle.network.specs.Forecast.{forecastOwn, leadFigures}
 use Rattle.exact_run.specs.ExactForecast.{ExactState, exactForecastOwn, exactNoObservation, exactLeadFigures}
 use Rattle.exact_run.specs.Following.{Observes, no-reading}
 use Rattle.exact_run.proofs.StepNear.{step-near}

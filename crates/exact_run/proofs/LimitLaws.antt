@@ -22,7 +22,8 @@ use Rattle.record.specs.declared.Observation.{Observation}
 use Rattle.record.specs.declared.Observation.the-variants.{Nothing}
 use Rattle.plan.specs.Plans.{weightOf}
 use Rattle.network.specs.Walk.{drained, walked, gathered, newCell}
-use Rattle.network.specs.Step.{inflowOf, correctedBy, moved, elementStep, networkDown, networkCell, aboveOf, newFigures}
+use Rattle.element_step.specs.ElementStep.{inflowOf, correctedBy, moved, elementStep}
+use Rattle.network.specs.Step.{networkDown, networkCell, aboveOf, newFigures}
 use Rattle.exact_run.specs.Limit.{next, atOrAbove, Quiet}
 use Rattle.exact_run.proofs.AboveLaws.{total, same, one, total-longer, above-most, above-sum, quiet-here, quiet-above}
 

@@ -23,6 +23,7 @@ use Rattle.record.specs.Rules.{recordRules}
 use Rattle.state.specs.declared.ElementState.{ElementState}
 use Rattle.state.specs.declared.State.{State}
 use Rattle.state.specs.States.{noPlace, placeOf, filled}
+use Rattle.state.proofs.StateLaws.{filled-at}
 use Rattle.state.specs.Start.{firstRains, firstPlace, started}
 use Rattle.network.specs.Step.{figuresIn, observationIn, stepOwn, stepPlace, stepped}
 use Rattle.exact_run.specs.ExactStep.{ExactObservation, exactOwn, exactObservationIn}
@@ -40,28 +41,12 @@ follows-as {f} {g} {x} e h = subst (λ (y : Figures). Follows y x) (sym e) h
 observes-as : {o p : Observation} {x : ExactObservation} → o ≡ p → Observes p x → Observes o x
 observes-as {o} {p} {x} e h = subst (λ (y : Observation). Observes y x) (sym e) h
 
--- a place that was filled holds what it was filled with
-module _ (f : ℕ → ElementState) (places : List ElementState) where
-  filled-length : (n : ℕ) → length (filled f n places) ≡ length places
-  unfolding filled
-  filled-length zero = refl
-  filled-length (suc n) = simp length-set (filled-length n)
-
-  filled-at : (n i : ℕ) → i < n → n ≤ length places → getD (filled f n places) i noPlace ≡ f i
-  unfolding filled
-  filled-at zero i l m = absurd (omega arith)
-  filled-at (suc n) i l m =
-      ⊎-elim
-      (λ e. rw e (getD-set-same (filled f n places) n (f n) noPlace (omega (arith, filled-length n))))
-      (λ k. getD-set-other (filled f n places) n i (f n) noPlace (λ e. omega arith) ∙ filled-at n i k (omega arith))
-      (eq-or-lt-of-le (omega arith))
-
 module _ (t : TableValues) (s : State) (room : t .elements ≤ length (s .element)) where
-  started-place : (i : ℕ) → i < t .elements → placeOf (started t s) i ≡ firstPlace (t .element i) (placeOf s i)
+  pub started-place : (i : ℕ) → i < t .elements → placeOf (started t s) i ≡ firstPlace (t .element i) (placeOf s i)
   unfolding placeOf started
   started-place i l = filled-at _ _ _ i l room
 
-  stepped-place : (input : ℕ → Input) (i : ℕ) → i < t .elements → placeOf (stepped t input s) i ≡ stepPlace t input s i
+  pub stepped-place : (input : ℕ → Input) (i : ℕ) → i < t .elements → placeOf (stepped t input s) i ≡ stepPlace t input s i
   unfolding placeOf stepped
   stepped-place input i l = filled-at _ _ _ i l room
 

@@ -14,7 +14,8 @@ use Rattle.table.specs.Bounds.{TableBounds}
 use Rattle.record.specs.declared.Observation.{Observation}
 use Rattle.plan.specs.Plans.{weightOf}
 use Rattle.network.specs.Walk.{gathered, newCell}
-use Rattle.network.specs.Step.{inflowOf, correctedBy, moved, elementStep, networkDown, networkCell, newFigures}
+use Rattle.element_step.specs.ElementStep.{inflowOf, correctedBy, moved, elementStep}
+use Rattle.network.specs.Step.{networkDown, networkCell, newFigures}
 use Rattle.network.proofs.WalkLaws.{new-cell-kept}
 use Rattle.exact_run.specs.ExactStep.{ExactObservation, exactInflowOf, exactCorrectedBy, exactElementStep, exactCell, exactNewFigures}
 use Rattle.exact_run.specs.Following.{Observes, no-reading, reading}

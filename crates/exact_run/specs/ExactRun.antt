@@ -5,7 +5,7 @@ use Rattle.exact.specs.Fraction.{whole}
 use Rattle.table.specs.Tables.{TableValues}
 use Rattle.record.specs.Records.{inputRain}
 use Rattle.state.specs.States.{noRains}
-use Rattle.network.specs.Step.{rainsAfter}
+use Rattle.element_step.specs.Rains.{rainsAfter}
 use Rattle.exact_run.specs.ExactStep.{exactOwn, exactObservationIn, exactNewFigures}
 use Rattle.exact_run.specs.ExactForecast.{ExactState}
 

@@ -11,6 +11,7 @@ use Rattle.table.specs.Tables.{tableOf}
 use Rattle.table.specs.Rules.{lengthFits, versionFits, countsFit, sizeFits, tableRules}
 use Rattle.engine.specs.Entries.{startAnswer}
 use Rattle.figures.specs.Starred.{Starred}
+use Rattle.figures.proofs.Output.{whole-output}
 
 pub starred : Starred
 unfolding turned weight weightedMean gapOf blended pieceFor depth dischargeAt onPiece rated gain gainMargin correctedDischarge correctedVariance corrected allBelow elementAt basinFits reachFits kindFits elementFits downFits tableOf lengthFits versionFits countsFit sizeFits tableRules startAnswer
@@ -28,4 +29,5 @@ starred =
       stage-below-top = λ a₁ a₂ b₁ b₂. refl;
       stage-at-top = λ a₁ a₂ b₁ b₂. refl;
       down-to-itself = λ s. refl;
+      whole-output = whole-output;
     }

@@ -1,6 +1,6 @@
 -- Document 01, Tried figures: the starred ones, as facts about the definitions that the contracts cite.
 use Prim.Native.Nat.{ℕ}
-use mathlib.Core.List.{List, [], _∷_}
+use mathlib.Core.List.{List, [], _∷_, _++_}
 use mathlib.Core.Path.{_≡_}
 use Rattle.refusal.specs.Answers.{accepted, refused}
 use Rattle.units.specs.Units.{grains}
@@ -15,6 +15,7 @@ use Rattle.method.specs.Figures.{figures}
 use Rattle.method.specs.Correction.{gain, corrected}
 use Rattle.state.specs.declared.State.{State}
 use Rattle.engine.specs.Entries.{startAnswer}
+use Rattle.report.specs.Program.{program}
 
 -- a piece of a rating curve: top, a and b
 abbrev pub piece : ℕ → ℕ → Offset → Piece
@@ -29,6 +30,16 @@ abbrev pub oneBasin : ℕ → List ℕ
 oneBasin down =
     0 ∷ 0 ∷ 0 ∷ 32 ∷ 1 ∷ 0 ∷ 60 ∷ 1 ∷ 1 ∷ 0
     ∷ 1 ∷ down ∷ 0 ∷ 60 ∷ 0 ∷ 0 ∷ 14 ∷ 16 ∷ 3 ∷ 232 ∷ 0 ∷ 0 ∷ 0 ∷ 0 ∷ 0 ∷ 0 ∷ 0 ∷ 0 ∷ 0 ∷ 0 ∷ 0 ∷ 0 ∷ 0 ∷ 0 ∷ 3 ∷ 232 ∷ []
+
+-- "Input, hex: 00000020 01 003C 01 01 00, 01 00 003C 00000E10 03E8 00000000 00000000 00000000 000003E8, 0003 01 0064."
+abbrev pub exampleInput : List ℕ
+exampleInput = oneBasin 0 ++ 0 ∷ 3 ∷ 1 ∷ 0 ∷ 100 ∷ []
+
+-- "1 1 0 63212055 3 0 6" and "1 1 1 86466471 4 399 6", a line each, in ASCII
+abbrev pub exampleOutput : List ℕ
+exampleOutput =
+    49 ∷ 32 ∷ 49 ∷ 32 ∷ 48 ∷ 32 ∷ 54 ∷ 51 ∷ 50 ∷ 49 ∷ 50 ∷ 48 ∷ 53 ∷ 53 ∷ 32 ∷ 51 ∷ 32 ∷ 48 ∷ 32 ∷ 54 ∷ 10
+    ∷ 49 ∷ 32 ∷ 49 ∷ 32 ∷ 49 ∷ 32 ∷ 56 ∷ 54 ∷ 52 ∷ 54 ∷ 54 ∷ 52 ∷ 55 ∷ 49 ∷ 32 ∷ 52 ∷ 32 ∷ 51 ∷ 57 ∷ 57 ∷ 32 ∷ 54 ∷ 10 ∷ []
 
 pub record Starred : Type 0 where
   -- "T 60, lag 60: H 367,879,441."
@@ -58,3 +69,5 @@ pub record Starred : Type 0 where
       → pieceFor 1_000 (piece 1_000 a₁ b₁ ∷ piece 30_001 a₂ b₂ ∷ []) ≡ accepted (piece 30_001 a₂ b₂)
   -- "Element 1 with down 1: 6."
   pub down-to-itself : (s : State) → startAnswer (oneBasin 1) s ≡ refused 6
+  -- "Output, whole"
+  pub whole-output : program exampleInput ≡ exampleOutput

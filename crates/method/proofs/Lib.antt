@@ -1,4 +1,1 @@
 pub mod FiguresLaws
-pub mod InflowLaws
-pub mod RoutingLaws
-pub mod CorrectionLaws

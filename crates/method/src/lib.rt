@@ -8,10 +8,6 @@ use units::Variance;
 use units::VarianceAnswer;
 use weighting::Estimate;
 
-pub mod inflow; // inflow.rt: the inflow of a basin from rain
-pub mod routing; // routing.rt: the move of one element
-pub mod correction; // correction.rt: the correction of one element by a reading
-
 // What an element holds or takes in: discharge and variance, each with its margin.
 pub struct Figures {
     pub discharge: Discharge,

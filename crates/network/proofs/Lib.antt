@@ -1,5 +1,6 @@
 pub mod WalkLaws
 pub mod InRangeLaws
-pub mod StepLaws
 pub mod NetworkLaws
-pub mod SteppingLaws
+pub mod AdvanceLaws
+pub mod StepLaws
+pub mod StateFitsLaws

@@ -23,11 +23,12 @@ use Rattle.method.specs.Figures.{figuresAnswer, FiguresFit}
 use Rattle.method.specs.Inflow.{noInflow, joinedInflow}
 use Rattle.table.specs.Tables.{TableValues}
 use Rattle.record.specs.declared.Observation.{Observation}
-use Rattle.network.specs.declared.Gathered.{Gathered}
+use Rattle.element_step.specs.declared.Gathered.{Gathered}
+use Rattle.element_step.specs.ElementStep.{elementNumbers}
 use Rattle.network.specs.Walk.{drained, walked, gathered, newCell}
-use Rattle.network.specs.Step.{elementNumbers, networkDown, networkCell, aboveOf, newFigures, networkNumbers}
+use Rattle.network.specs.Step.{networkDown, networkCell, aboveOf, newFigures, networkNumbers}
 use Rattle.plan.specs.Plans.{weightOf}
-use Rattle.network.specs.Bounds.{gatheredOf, noGathered, joinGathered, GatheredBelow}
+use Rattle.element_step.specs.Bounds.{gatheredOf, noGathered, joinGathered, GatheredBelow}
 
 -- ---- the sums that are pushed downstream
 

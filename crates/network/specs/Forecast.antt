@@ -4,12 +4,10 @@ use mathlib.Core.List.{List, [], _++_}
 use Rattle.method.specs.declared.Figures.{Figures}
 use Rattle.method.specs.Inflow.{forecastInflow}
 use Rattle.table.specs.Tables.{TableValues}
-use Rattle.record.specs.declared.Observation.{Observation}
-use Rattle.record.specs.declared.Observation.the-variants.{Nothing}
 use Rattle.state.specs.declared.Rains.{Rains}
 use Rattle.state.specs.declared.State.{State}
 use Rattle.state.specs.States.{placeOf}
-use Rattle.network.specs.Step.{newFigures, networkNumbers, figuresIn}
+use Rattle.network.specs.Step.{newFigures, networkNumbers, noObservation, figuresIn}
 
 -- "c is the smaller of 3 and the step count"
 unfoldable pub rainCount : ℕ → ℕ
@@ -27,9 +25,6 @@ unfoldable pub forecastOwn : TableValues → State → ℕ → ℕ → Figures
 forecastOwn t s lead i =
     let c : ℕ = rainCount (s .steps) in
     forecastInflow (rainSum (placeOf s i .rains) c) c (t .element i .area) (t .element i .runoff) lead (t .element i .rain .0)
-
-unfoldable pub noObservation : ℕ → Observation
-noObservation i = Nothing
 
 -- the figures of each element at a lead; lead 0 is the state itself
 unfoldable pub leadFigures : TableValues → State → ℕ → ℕ → Figures

@@ -2,7 +2,7 @@ ghost use mathlib.Core.Path.{_≡_};
 ghost use Rattle.table.specs.Bounds.{TableBounds};
 ghost use Rattle.table.specs.InUse.{valuesOf};
 ghost use Rattle.plan.specs.Plans.{WeightsHeld, PlanFits, Prepared};
-use record::rains::count_basins;
+use rains::count_basins;
 use table::Table;
 use table::Verdict;
 use weighting::weight::series_weight;
@@ -53,7 +53,7 @@ fn plan_of(table: Table) -> Plan
 pub fn prepare(bytes: &[u8]) -> PlanAnswer
     ensures { λ r. ⌜ Prepared (now (bytes .entry)) r ⌝ }
 {
-    let read = table::read(bytes);
+    let read = table_reader::read(bytes);
     let verdict = read.verdict;
     let table = read.table;
     match verdict {

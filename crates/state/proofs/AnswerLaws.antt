@@ -1,10 +1,15 @@
 -- Laws of an entry's answer.
-use mathlib.Core.Path.{_≡_}
+use Prim.{Unit}
+use Prim.Native.Nat.{ℕ}
+use mathlib.Core.Path.{_≡_, sym, ap, _∙_}
 use Rattle.refusal.specs.Refusals.{number}
 use Rattle.refusal.specs.Answers.{Answer, accepted, refused}
 use Rattle.refusal.specs.declared.Refusal.{Refusal}
+use Rattle.refusal.proofs.RuleLaws.{not-both}
+use Rattle.table.specs.Verdicts.{verdictAnswer}
 use Rattle.table.specs.declared.Verdict.the-variants.{Accepted, Refused}
 use Rattle.state.specs.declared.State.{State}
+use Rattle.state.specs.declared.StateAnswer.{StateAnswer}
 use Rattle.state.specs.Answers.{verdict, stateAfter, Answered}
 
 -- a refusal hands back the state as it was
@@ -21,3 +26,43 @@ pub answered-accepted :
     → Answered (record { verdict = Accepted; state = next }) answer before
 unfolding verdict stateAfter
 answered-accepted answer before next e = record { verdict = rw e; state = rw e }
+
+-- an entry's answer, read backwards: it was accepted
+pub answered-next :
+    (r : StateAnswer) (answer : Answer State) (before : State)
+    → Answered r answer before
+    → r .verdict ≡ Accepted
+    → answer ≡ accepted (r .state)
+unfolding verdict stateAfter
+answered-next r answer before h e = go answer (h .verdict) (h .state)
+  where
+    go :
+        (answer : Answer State)
+        → verdictAnswer (r .verdict) ≡ verdict answer
+        → r .state ≡ stateAfter answer before
+        → answer ≡ accepted (r .state)
+    go (accepted next) v s = ap accepted (sym s)
+    go (refused n) v s = absurd (not-both (ap verdictAnswer e) v)
+
+-- it was refused
+pub answered-before :
+    (r : StateAnswer) (answer : Answer State) (before : State) {k : Refusal}
+    → Answered r answer before
+    → r .verdict ≡ Refused k
+    → (answer ≡ refused (number k)) × (r .state ≡ before)
+unfolding verdict stateAfter
+answered-before r answer before {k} h e = go answer (h .verdict) (h .state)
+  where
+    go :
+        (answer : Answer State)
+        → verdictAnswer (r .verdict) ≡ verdict answer
+        → r .state ≡ stateAfter answer before
+        → (answer ≡ refused (number k)) × (r .state ≡ before)
+    go (accepted next) v s = absurd (not-both v (ap verdictAnswer e))
+    go (refused n) v s = (same-number n (sym v ∙ ap verdictAnswer e), s)
+      where
+        same-number :
+            (n : ℕ)
+            → _≡_ {A = Answer Unit} (refused n) (refused (number k))
+            → _≡_ {A = Answer State} (refused n) (refused (number k))
+        same-number n e = ap refused cc

@@ -1,11 +1,15 @@
 -- Laws of the state: its places, the start and rule 8.
-use Prim.Native.Nat.{ℕ, _+_, _<_}
+use Prim.Native.Nat.{ℕ, zero, suc, _+_, _≤_, _<_}
 use mathlib.Core.Bool.{Bool, _&&_}
 use mathlib.Core.List.{List}
-use mathlib.Core.Path.{_≡_, ap, _∙_}
+use mathlib.Core.Logic.{⊎-elim}
+use mathlib.Core.Path.{_≡_, refl, ap, _∙_}
+use native.Mathlib.Nat.{eq-or-lt-of-le}
+use native.Mathlib.Omega.{arith}
 use native.Mathlib.Numerals.{add-one}
 use lib.Dec.{leb, eqb}
-use lib.ListN.{getD, set}
+use lib.ListN.{length, getD, set, length-set}
+use lib.Seq.{getD-set-same, getD-set-other}
 use Rattle.table.proofs.HeldLaws.{element-held}
 use Rattle.table.specs.declared.Table.{Table}
 use Rattle.fields.specs.Ranges.{allBelow}
@@ -25,6 +29,22 @@ pub filled-again :
     → set places i x ≡ filled f (i + 1) before
 unfolding filled
 filled-again f i before places x h k = rw (add-one, h, k)
+
+-- a place that was filled holds what it was filled with
+module _ (f : ℕ → ElementState) (places : List ElementState) where
+  pub filled-length : (n : ℕ) → length (filled f n places) ≡ length places
+  unfolding filled
+  filled-length zero = refl
+  filled-length (suc n) = simp length-set (filled-length n)
+
+  pub filled-at : (n i : ℕ) → i < n → n ≤ length places → getD (filled f n places) i noPlace ≡ f i
+  unfolding filled
+  filled-at zero i l m = absurd (omega arith)
+  filled-at (suc n) i l m =
+      ⊎-elim
+      (λ e. rw e (getD-set-same (filled f n places) n (f n) noPlace (omega (arith, filled-length n))))
+      (λ k. getD-set-other (filled f n places) n i (f n) noPlace (λ e. omega arith) ∙ filled-at n i k (omega arith))
+      (eq-or-lt-of-le (omega arith))
 
 -- the place of element i at the start
 pub first-place-at :

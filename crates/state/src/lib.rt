@@ -1,16 +1,10 @@
+// The state of a river, what rule 8 asks of each of its places, and rule 9.
 ghost use mathlib.Core.Path.{_≡_};
-ghost use Prim.Native.Nat.{_≤_};
-ghost use Rattle.fields.specs.Ranges.{allBelow};
-ghost use Rattle.table.specs.InUse.{valuesOf};
-ghost use Rattle.state.specs.States.{placeOf};
-ghost use Rattle.state.specs.Rules.{figuresFit, rainsFit, placeFits, stateFits, stepsLeft};
+ghost use Rattle.state.specs.Rules.{figuresFit, rainsFit, placeFits, stepsLeft};
 use method::Figures;
-use table::Table;
 use table::Verdict;
 use units::Discharge;
 use units::Variance;
-
-pub mod first_values; // first_values.rt: the state that a start leaves
 
 // A basin's last three rains, the latest first.
 pub struct Rains {
@@ -58,7 +52,7 @@ fn rains_fit(r: Rains) -> bool
 }
 
 // Rule 8 on one element: the rains of a basin alone are read.
-fn place_fits(kind: u64, place: ElementState) -> bool
+pub fn place_fits(kind: u64, place: ElementState) -> bool
     ensures { λ r. ⌜ r ≡ placeFits kind place ⌝ }
 {
     let figures = place.figures;
@@ -67,27 +61,6 @@ fn place_fits(kind: u64, place: ElementState) -> bool
         1 => figures_fit(figures) & rains_fit(rains),
         _ => figures_fit(figures),
     }
-}
-
-fn places_fit(table: Table, state: State) -> bool
-    requires { ⌜ table .elements ≤ 64 ⌝ }
-    ensures { λ r. ⌜ r ≡ allBelow (λ i. placeFits (valuesOf table .element i .kind) (placeOf state i)) (table .elements) ⌝ }
-{
-    let n = table.elements;
-    let mut fit = true;
-    for i in 0..n {
-        let e = table.element[i];
-        fit = fit & place_fits(e.kind, state.element[i]);
-    }
-    fit
-}
-
-// Rule 8.
-pub fn state_fits(table: Table, state: State) -> bool
-    requires { ⌜ table .elements ≤ 64 ⌝ }
-    ensures { λ r. ⌜ r ≡ stateFits (valuesOf table) state ⌝ }
-{
-    (state.elements == table.elements) & (state.steps <= 10_000) & places_fit(table, state)
 }
 
 // Rule 9.

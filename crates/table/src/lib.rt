@@ -1,15 +1,14 @@
+// A table, and its header: rules 1 to 4.
 ghost use mathlib.Core.Path.{_≡_};
-ghost use Prim.Native.Nat.{_≤_};
-ghost use Rattle.refusal.specs.Answers.{accepted};
-ghost use Rattle.table.specs.Verdicts.{verdictAnswer};
 ghost use Rattle.table.specs.Tables.{tableOf};
-ghost use Rattle.table.specs.Rules.{tableRules};
-ghost use Rattle.table.specs.Decoded.{Holds, TableRead};
+ghost use Rattle.table.specs.Rules.{lengthFits, versionFits, countsFit, sizeFits};
 use elements::Element;
+use fields::bytes::byte;
+use fields::bytes::read16;
+use fields::bytes::read32;
+use fields::range::in_range;
 use gauges::Gauge;
 use refusal::Refusal;
-
-pub mod header; // header.rt: the header of a table, rules 1 to 4
 
 // Whether a call's input is accepted.
 pub enum Verdict {
@@ -33,80 +32,34 @@ pub struct TableAnswer {
     pub table: Table,
 }
 
-// Rules 1 to 7 in checking order.
-pub fn judge(table: &[u8]) -> Verdict
-    ensures { λ r. ⌜ verdictAnswer r ≡ tableRules (now (table .entry)) (accepted tt) ⌝ }
+// Rule 1: the length field counts the bytes after it, and the header is whole.
+pub fn length_fits(table: &[u8]) -> bool
+    ensures { λ r. ⌜ r ≡ lengthFits (now (table .entry)) ⌝ }
 {
-    if !header::length_fits(table) {
-        return Verdict::Refused(Refusal::TableLength);
-    }
-    if !header::version_fits(table) {
-        return Verdict::Refused(Refusal::TableVersion);
-    }
-    if !header::counts_fit(table) {
-        return Verdict::Refused(Refusal::TableCounts);
-    }
-    if !header::size_fits(table) {
-        return Verdict::Refused(Refusal::TableSize);
-    }
-    let n = fields::bytes::byte(table, 8) as usize;
-    let m = fields::bytes::byte(table, 9) as usize;
-    if !elements::elements_fit(table, fields::bytes::read16(table, 5), n) {
-        return Verdict::Refused(Refusal::ElementField);
-    }
-    if !elements::downs_fit(table, n) {
-        return Verdict::Refused(Refusal::ElementDown);
-    }
-    if !gauges::gauges_fit(table, n, m) {
-        return Verdict::Refused(Refusal::GaugeField);
-    }
-    Verdict::Accepted
+    let bytes = table.len();
+    (10 <= bytes) & (read32(table, 0) as usize + 4 == bytes)
 }
 
-// The table that the bytes hold; its counts are within the places.
-fn decode(table: &[u8]) -> Table
-    requires { ⌜ (tableOf (now table) .elements ≤ 64) × (tableOf (now table) .gauges ≤ 16) ⌝ }
-    ensures { λ r. ⌜ Holds r (tableOf (now (table .entry))) ⌝ }
+// Rule 2.
+pub fn version_fits(table: &[u8]) -> bool
+    ensures { λ r. ⌜ r ≡ versionFits (now (table .entry)) ⌝ }
 {
-    let n = fields::bytes::byte(table, 8) as usize;
-    let m = fields::bytes::byte(table, 9) as usize;
-    let element = elements::decode(table, n);
-    let gauge = gauges::decode(table, n, m);
-    Table {
-        step: fields::bytes::read16(table, 5),
-        leads: fields::bytes::byte(table, 7) as usize,
-        elements: n,
-        gauges: m,
-        element,
-        gauge,
-    }
+    byte(table, 4) == 1
 }
 
-// A table with no element and no gauge.
-fn empty() -> Table {
-    Table {
-        step: 0,
-        leads: 0,
-        elements: 0,
-        gauges: 0,
-        element: elements::unused(),
-        gauge: gauges::unused(),
-    }
+// Rule 3: the ranges of T, L, N and M.
+pub fn counts_fit(table: &[u8]) -> bool
+    ensures { λ r. ⌜ r ≡ countsFit (tableOf (now (table .entry))) ⌝ }
+{
+    in_range(read16(table, 5), 1, 1_440)
+        & in_range(byte(table, 7), 1, 12)
+        & in_range(byte(table, 8), 1, 64)
+        & in_range(byte(table, 9), 0, 16)
 }
 
-// The table, or the refusal by rules 1 to 7.
-pub fn read(table: &[u8]) -> TableAnswer
-    ensures { λ r. ⌜ TableRead (now (table .entry)) r ⌝ }
+// Rule 4: the length field is that of N elements and M gauges.
+pub fn size_fits(table: &[u8]) -> bool
+    ensures { λ r. ⌜ r ≡ sizeFits (now (table .entry)) (tableOf (now (table .entry))) ⌝ }
 {
-    let verdict = judge(table);
-    match verdict {
-        Verdict::Accepted => {
-            let table = decode(table);
-            TableAnswer { verdict, table }
-        }
-        Verdict::Refused(_) => {
-            let table = empty();
-            TableAnswer { verdict, table }
-        }
-    }
+    read32(table, 0) == 6 + 26 * byte(table, 8) + 46 * byte(table, 9)
 }

@@ -2,7 +2,7 @@
 use Prim.Native.Nat.{ℕ, _≤_, _<_}
 use mathlib.Core.Bool.{Bool, true, false, cond, _||_}
 use mathlib.Core.List.{List, [], _∷_, _++_}
-use mathlib.Core.Path.{_≡_, refl, _∙_}
+use mathlib.Core.Path.{_≡_, refl, ap, _∙_}
 use borrow.Author.Tests.{lt-ltb, le-ltb}
 use lib.Dec.{ltb}
 use native.Mathlib.Decide.{decLe}
@@ -51,6 +51,15 @@ module _ {A B : Type 0} (a : A) (b : B) where
       (ns : List ℕ) {x : A} → accepted x ≡ underCeiling ns a → (x ≡ a) × (underCeiling ns b ≡ accepted b)
   unfolding underCeiling
   same-accepted ns {x} e = picked-accepted (somePasses ns) x e
+
+  -- and by the same number
+  pub same-refused-number : (ns : List ℕ) {k : ℕ} → underCeiling ns a ≡ refused k → underCeiling ns b ≡ refused k
+  unfolding underCeiling
+  same-refused-number ns {k} e = go (somePasses ns) e
+    where
+      go : (t : Bool) → cond t (refused 16) (accepted a) ≡ refused k → cond t (refused 16) (accepted b) ≡ refused k
+      go true h = ap refused cc
+      go false h = let z : _≡_ {A = ℕ} 0 1 = cc in absurd (omega arith)
 
 -- an answer that judges a single number
 module _ {A : Type 0} (n : ℕ) (a : A) where

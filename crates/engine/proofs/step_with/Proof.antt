@@ -8,7 +8,8 @@ use Rattle.state.specs.Rules.{stateFits, stepsLeft}
 use Rattle.network.specs.Bounds.{FiguresUnder}
 use Rattle.table.proofs.HeldLaws.{few-elements}
 use Rattle.state.proofs.AnswerLaws.{answered-refused}
-use Rattle.engine.proofs.EntryLaws.{state-refused, limit-refused, record-refused, record-accepted, record-kept, record-verdict, inputs-are, inputs-fit, steps-most, places-under, answered-as, refused-as, answered-inputs}
+use Rattle.network.proofs.StateFitsLaws.{steps-most, places-under}
+use Rattle.engine.proofs.EntryLaws.{state-refused, limit-refused, record-refused, record-accepted, record-kept, record-verdict, inputs-are, inputs-fit, answered-as, refused-as, answered-inputs}
 use Rattle.engine.proofs.step_with.Statement.{statement}
 use Rattle.engine.proofs.step_with.Tie as tie
 

@@ -1,0 +1,68 @@
+#!/usr/bin/env python3
+"""Writes a bench input to standard output: a table and its records, nothing of which is refused.
+
+    python3 bench/make_input.py [--elements 64] [--gauges 16] [--leads 12] [--steps 1000] [--seed 1]
+
+The river: every second element a basin, which drains into a reach; the reaches form a tree that joins two by two and ends in one outlet.
+Gauges stand on reaches spread over the tree. Rain comes in storms, stages follow smoothly, one stage in ten is a gap.
+"""
+import argparse
+import sys
+from pathlib import Path
+from random import Random
+
+sys.path.insert(0, str(Path(__file__).resolve().parent.parent / "tests"))
+from calculator.encode import record_bytes, table_bytes  # noqa: E402
+
+GAP = 65_535
+
+
+def river(random, count, gauge_count, leads):
+    reaches = [number for number in range(1, count + 1) if number % 2 == 0 or number == count]
+    below = {}  # reach k drains into the reach about halfway to the outlet: pairs join, then pairs of pairs
+    for place, number in enumerate(reaches):
+        later = reaches[place + 1:]
+        below[number] = later[len(later) // 2] if later else 0
+    elements = []
+    for number in range(1, count + 1):
+        if number in below:
+            elements.append(dict(kind=2, down=below[number], lag=random.randint(60, 240), first_discharge=random.randint(1, 8_000_000),
+                                 first_variance=random.randint(0, 1_000), W=random.randint(1_000, 200_000)))
+        else:
+            elements.append(dict(kind=1, down=next(reach for reach in reaches if reach > number), lag=random.randint(120, 600),
+                                 area=random.randint(500, 6_000), f=random.randint(300, 900), first_discharge=random.randint(1, 2_000_000),
+                                 first_variance=random.randint(0, 100), W=random.randint(100, 20_000), G=random.randint(1_000, 500_000)))
+    gauge_count = min(gauge_count, len(reaches))
+    gauged = [reaches[len(reaches) * (k + 1) // gauge_count - 1] for k in range(gauge_count)]
+    gauges = [dict(element=number, R=random.randint(20_000, 200_000),
+                   pieces=[(1_500, random.randint(20_000, 40_000), -300), (3_000, random.randint(15_000, 30_000), -100),
+                           (30_001, random.randint(10_000, 20_000), 200)]) for number in gauged]
+    return dict(T=60, L=leads, elements=elements, gauges=gauges)
+
+
+def records(random, table, steps):
+    basins = sum(element["kind"] == 1 for element in table["elements"])
+    stages = [random.randint(600, 1_200) for _ in table["gauges"]]
+    storm = 0
+    for _ in range(steps):
+        storm = max(0, storm - 1) if storm else random.choice((0,) * 30 + (12, 24))
+        rains = [random.randint(0, 120) if storm else random.choice((0, 0, 0, 2)) for _ in range(basins)]
+        for k, stage in enumerate(stages):
+            stages[k] = min(4_500, max(400, stage + (random.randint(-40, 160) if storm else random.randint(-60, 25))))
+        yield rains, [GAP if random.random() < 0.1 else stage for stage in stages]
+
+
+def main():
+    parser = argparse.ArgumentParser(description=__doc__, formatter_class=argparse.RawDescriptionHelpFormatter)
+    for name, default in (("elements", 64), ("gauges", 16), ("leads", 12), ("steps", 1_000), ("seed", 1)):
+        parser.add_argument(f"--{name}", type=int, default=default)
+    options = parser.parse_args()
+    random = Random(options.seed)
+    table = river(random, options.elements, options.gauges, options.leads)
+    sys.stdout.buffer.write(table_bytes(table))
+    for rains, stages in records(random, table, options.steps):
+        sys.stdout.buffer.write(record_bytes(rains, stages))
+
+
+if __name__ == "__main__":
+    main()

@@ -1,0 +1,2 @@
+pub mod PlacesLaws
+pub mod CopyLaws

@@ -1,0 +1,95 @@
+// Document 01, the program: a table and then records on standard input, the figures of each accepted step on standard output.
+ghost use mathlib.Core.Path.{_≡_};
+ghost use Prim.Native.Nat.{_≤_};
+ghost use lib.ListN.{length};
+ghost use Rattle.plan.specs.Plans.{PlanFits};
+ghost use Rattle.session.specs.Windows.{SessionFits};
+use lines::put_refusal;
+use opening::Opening;
+use opening::open;
+use plan::Plan;
+use refusal::Refusal;
+use session::Session;
+use session::Window;
+use session::answer_one;
+use session::write_out;
+use table::Verdict;
+
+// Answers the records, one after the other, up to a hundred thousand.
+fn serve(plan: Plan, session: Session, input: &mut [u8], numbers: &mut [u64], out: &mut [u8])
+    requires { ⌜ PlanFits plan × (SessionFits session (length (now input)) × ((length (now numbers) ≡ 3328) × (length (now out) ≡ 262144))) ⌝ }
+{
+    let mut session = session;
+    let mut count: u64 = 0;
+    while count < 100_000 {
+        if session.ended {
+            break;
+        }
+        session = answer_one(plan, session, &mut *input, &mut *numbers, &mut *out);
+        count += 1;
+    }
+    write_out(&*out, session.at);
+}
+
+// The table is refused, and nothing else is read.
+fn refuse(refusal: Refusal) {
+    let mut out = [0u8; 64];
+    let end = put_refusal(&mut out, 0, 0, refusal.code());
+    write_out(&out, end);
+}
+
+// What the program holds after an accepted table.
+fn first_session(opening: Opening, have: usize) -> Session
+    requires { ⌜ (opening .length ≤ have) × (have ≤ 131072) ⌝ }
+    ensures { λ r. ⌜ SessionFits r 131072 ⌝ }
+{
+    let state = opening.state;
+    Session {
+        state,
+        window: Window {
+            from: opening.length,
+            have,
+            more: have == 131_072,
+        },
+        at: 0,
+        ended: false,
+    }
+}
+
+// Room for two of the longest records.
+fn input_buffer() -> [u8; 131072]
+    ensures { λ r. ⌜ 131072 ≡ length r ⌝ }
+{
+    [0; 131072]
+}
+
+// Room for the largest forecast.
+fn number_buffer() -> [u64; 3328]
+    ensures { λ r. ⌜ 3328 ≡ length r ⌝ }
+{
+    [0; 3328]
+}
+
+// Room for the longest text of two records.
+fn text_buffer() -> [u8; 262144]
+    ensures { λ r. ⌜ 262144 ≡ length r ⌝ }
+{
+    [0; 262144]
+}
+
+fn main() {
+    let mut input = input_buffer();
+    let mut numbers = number_buffer();
+    let mut out = text_buffer();
+    let have = io::read_full(0, &mut input);
+    let opening = open(&input[..have]);
+    let verdict = opening.verdict;
+    match verdict {
+        Verdict::Accepted => {
+            let plan = opening.plan;
+            let session = first_session(opening, have);
+            serve(plan, session, &mut input, &mut numbers, &mut out);
+        }
+        Verdict::Refused(refusal) => refuse(refusal),
+    }
+}

@@ -1,0 +1,109 @@
+-- What an accepted call hands out is within its margins and under the limit.
+use Prim.Native.Nat.{ℕ, zero, suc, _+_, _≤_, _<_}
+use mathlib.Core.Bool.{Bool}
+use mathlib.Core.Path.{_≡_, refl, ap}
+use native.Mathlib.Omega.{arith}
+use Rattle.units.specs.Units.{C}
+use Rattle.method.specs.declared.Figures.{Figures}
+use Rattle.method.specs.Inflow.{forecastInflow}
+use Rattle.exact.specs.Exact.{ExactFigures}
+use Rattle.exact.specs.Margins.{Follows}
+use Rattle.table.specs.Tables.{TableValues}
+use Rattle.table.specs.Bounds.{TableBounds}
+use Rattle.record.specs.declared.Observation.the-variants.{Nothing}
+use Rattle.state.specs.declared.State.{State}
+use Rattle.network.specs.Step.{figuresIn, noObservation}
+use Rattle.network.specs.Forecast.{forecastOwn, leadFigures}
+use Rattle.leads.specs.Answer.{forecastFigures}
+use Rattle.network.proofs.StateFitsLaws.{steps-most}
+use Rattle.exact_run.specs.ExactForecast.{ExactState, exactLeadFigures}
+use Rattle.exact_run.proofs.ForecastNear.{leads-near}
+use Rattle.exact_run.proofs.LimitLaws.{limit-step}
+use Rattle.claim.specs.Calls.{statePlaces, forecastPlaces, paired}
+use Rattle.claim.specs.CabinetRun.{stateHanded}
+use Rattle.claim.specs.FractionRun.{exactStateHanded, exactForecastHanded}
+use Rattle.claim.specs.Claim.{Pairwise, All, WithinMargins, UnderLimit}
+use Rattle.claim.proofs.ListLaws.{near-listed, near-by-lead, every-listed, every-by-lead}
+use Rattle.claim.proofs.CeilingLaws.{inflow-under, new-under, lead-under}
+use Rattle.claim.proofs.AcceptedLaws.{Forecasting}
+use Rattle.claim.proofs.TogetherLaws.{Limited, Together, state-under}
+
+-- figures that follow are within their margins, at equal step counts
+within-margins :
+    {n m : ℕ} (i lead : ℕ) {f : Figures} {x : ExactFigures}
+    → n ≡ m
+    → Follows f x
+    → WithinMargins (record { steps = n; element = i; lead = lead }, f) (record { steps = m; element = i; lead = lead }, x)
+within-margins i lead e h =
+    record {
+      place = ap (λ (k : ℕ). record { steps = k; element = i; lead = lead }) e;
+      discharge = h .discharge .within;
+      variance = h .variance .within;
+    }
+
+module _ (t : TableValues) (s : State) (x : ExactState) (heard : ℕ → Bool) (both : Together t s x heard) where
+  -- the state itself, after a start or a step
+  pub state-near : Pairwise WithinMargins (stateHanded t s) (exactStateHanded t x)
+  unfolding stateHanded exactStateHanded statePlaces
+  state-near =
+      near-listed WithinMargins _ (figuresIn s) _ (x .figures) (t .elements)
+      (λ i l. within-margins (i + 1) 0 (both .agrees .steps) (both .agrees .figures i l))
+
+  pub state-limit : All (UnderLimit t heard) (stateHanded t s)
+  unfolding stateHanded statePlaces UnderLimit
+  state-limit =
+      every-listed (UnderLimit t heard) _ (figuresIn s) (t .elements) (λ i l q. omega (arith, both .limit i l q))
+
+  -- the leads of an accepted forecast
+  module _ (b : TableBounds t) (call : Forecasting t s) where
+    -- no lead's discharge passes C
+    lead-fits : (lead : ℕ) → lead ≤ t .leads → (i : ℕ) → i < t .elements → leadFigures t s lead i .discharge .0 ≤ C
+    unfolding leadFigures noObservation
+    lead-fits zero m i l = state-under t s (call .fits) i l
+    lead-fits (suc lead) m i l =
+        new-under t (forecastOwn t s (suc lead)) noObservation (leadFigures t s lead)
+        (lead-under t s (t .leads) lead m (call .under)) i l refl
+
+    -- a basin's inflow has margin 1
+    own-margin : (lead i : ℕ) → forecastOwn t s lead i .«discharge_margin» .0 ≤ 1
+    unfolding forecastOwn forecastInflow
+    own-margin lead i = omega arith
+
+    -- "leads 1 to L are steps without readings"
+    silent : (i : ℕ) → noObservation i ≡ Nothing
+    unfolding noObservation
+    silent i = refl
+
+    -- each lead is under the limit
+    lead-low : (lead : ℕ) → lead ≤ t .leads → (i : ℕ) → i < t .elements → Limited t heard (s .steps + lead) i (leadFigures t s lead i)
+    unfolding leadFigures
+    lead-low zero m i l q = omega (arith, both .limit i l q)
+    lead-low (suc lead) m i l q =
+        omega (
+          arith,
+          limit-step t (forecastOwn t s (suc lead)) noObservation (leadFigures t s lead) heard heard (s .steps + lead) b
+              (omega (arith, steps-most t s (call .fits), b .leadsMost))
+              (lead-fits lead (omega arith))
+              (inflow-under t (forecastOwn t s (suc lead)) noObservation (leadFigures t s lead) (lead-under t s (t .leads) lead m (call .under)))
+              (λ k n. own-margin (suc lead) k)
+              (λ k h. h)
+              (λ k n h. silent k)
+              (lead-low lead (omega arith))
+              i
+              l
+              q,
+        )
+
+    -- all that the forecast answers
+    pub forecast-near : Pairwise WithinMargins (paired (forecastPlaces t (s .steps)) (forecastFigures t s)) (exactForecastHanded t x)
+    unfolding forecastFigures exactForecastHanded forecastPlaces
+    forecast-near =
+        near-by-lead WithinMargins _ (λ i lead. leadFigures t s lead i) _ (λ i lead. exactLeadFigures t x lead i) (t .elements)
+        (t .leads + 1)
+        (λ i lead l m. within-margins (i + 1) lead (both .agrees .steps) (leads-near t s x b (both .agrees) lead i l))
+
+    pub forecast-limit : All (UnderLimit t heard) (paired (forecastPlaces t (s .steps)) (forecastFigures t s))
+    unfolding forecastFigures forecastPlaces UnderLimit
+    forecast-limit =
+        every-by-lead (UnderLimit t heard) _ (λ i lead. leadFigures t s lead i) (t .elements) (t .leads + 1)
+        (λ i lead l m q. lead-low lead (omega arith) i l q)

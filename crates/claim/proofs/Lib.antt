@@ -1,0 +1,8 @@
+pub mod ListLaws
+pub mod CeilingLaws
+pub mod HeardLaws
+pub mod AcceptedLaws
+pub mod TogetherLaws
+pub mod HandedLaws
+pub mod CallLaws
+pub mod Theorem

@@ -1,0 +1,4 @@
+pub mod Calls
+pub mod CabinetRun
+pub mod FractionRun
+pub mod Claim

@@ -1,0 +1,3 @@
+pub mod ElementStep
+pub mod Rains
+pub mod Bounds

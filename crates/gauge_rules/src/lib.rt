@@ -1,0 +1,48 @@
+// Rule 7: the gauges' fields and order.
+ghost use mathlib.Core.Path.{_≡_};
+ghost use Prim.Native.Nat.{_≤_};
+ghost use Rattle.fields.specs.Ranges.{allBelow};
+ghost use Rattle.gauges.specs.Gauges.{gaugeAt};
+ghost use Rattle.gauges.specs.Rules.{elementBefore, gaugeFits};
+use curve_rules::curve_fits;
+use fields::range::in_range;
+use gauges::gauge_at;
+use units::Variance;
+
+// The element of the gauge before gauge g; 0 before the first.
+fn element_before(table: &[u8], n: usize, g: usize) -> usize
+    requires { ⌜ (n ≤ 64) × (g ≤ 64) ⌝ }
+    ensures { λ r. ⌜ r ≡ elementBefore (gaugeAt (now (table .entry)) n) g ⌝ }
+{
+    if g == 0 {
+        return 0;
+    }
+    let gauge = gauge_at(table, n, g - 1);
+    gauge.element
+}
+
+// Rule 7 on gauge g, counted from 0.
+fn gauge_fits(table: &[u8], n: usize, g: usize) -> bool
+    requires { ⌜ (n ≤ 64) × (g ≤ 64) ⌝ }
+    ensures { λ r. ⌜ r ≡ gaugeFits n (gaugeAt (now (table .entry)) n) g ⌝ }
+{
+    let gauge = gauge_at(table, n, g);
+    let noise = gauge.noise;
+    let curve = gauge.curve;
+    (element_before(table, n, g) < gauge.element)
+        & (gauge.element <= n)
+        & in_range(noise.0, 1, Variance::CEILING)
+        & curve_fits(curve)
+}
+
+// Rule 7: the fields and the order of all gauges.
+pub fn gauges_fit(table: &[u8], n: usize, m: usize) -> bool
+    requires { ⌜ (n ≤ 64) × (m ≤ 16) ⌝ }
+    ensures { λ r. ⌜ r ≡ allBelow (gaugeFits n (gaugeAt (now (table .entry)) n)) m ⌝ }
+{
+    let mut fit = true;
+    for g in 0..m {
+        fit = fit & gauge_fits(table, n, g);
+    }
+    fit
+}

@@ -1,0 +1,5 @@
+pub mod LayoutLaws
+pub mod SameLaws
+pub mod FitsLaws
+pub mod LeadsLaws
+pub mod ForecastLaws

@@ -1,0 +1,3 @@
+pub mod FiguresLaws
+pub mod ReportLaws
+pub mod RecordEndLaws

@@ -1,0 +1,22 @@
+-- `answer_refusal` meets its contract.
+use Rattle.report.proofs.ReportLaws.{refusal-reported}
+use borrow.Author.Needs.{needs}
+use Rattle.report.proofs.answer_refusal.Statement.{statement}
+use Rattle.report.proofs.answer_refusal.Tie as tie
+
+code-requires : tie.Need-code-requires
+code-requires c κs = search needs
+
+put-refusal-requires : tie.Need-put-refusal-requires
+put-refusal-requires c κs = search needs
+
+same-length : tie.Need-same-length
+same-length c = search needs
+
+returns : tie.Need-returns
+returns c =
+    let p = c .before .before in
+    refusal-reported _ _ _ _ (p .before .before .code .ensures) (p .put-refusal .ensures .0) (p .put-refusal .ensures .1)
+
+pub answer-refusal-spec : {M : Type 1} → statement M
+answer-refusal-spec = tie.close (tie.spec code-requires put-refusal-requires same-length returns)

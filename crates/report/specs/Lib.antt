@@ -1,0 +1,3 @@
+pub mod Records
+pub mod Program
+pub mod Answers

@@ -1,0 +1,155 @@
+// What the program holds between records, and one record answered: the input and the text are kept in large buffers.
+ghost use mathlib.Core.Path.{_≡_};
+ghost use Prim.Native.Nat.{_+_, _≤_};
+ghost use lib.ListN.{length, take, drop};
+ghost use Rattle.plan.specs.Plans.{PlanFits};
+ghost use Rattle.session.specs.Windows.{Within, Kept, SessionFits};
+use plan::Plan;
+use report::answer_next;
+use state::State;
+
+// The input that is read and not used yet: the bytes from one place to another of a buffer, and whether more may follow.
+pub struct Window {
+    pub from: usize,
+    pub have: usize,
+    pub more: bool,
+}
+
+// The bytes from a place on, moved to the front.
+fn move_front(input: &mut [u8], from: usize, count: usize)
+    requires { ⌜ from + count ≤ length (now input) ⌝ }
+    ensures { λ r. ⌜ take count (now (input .exit)) ≡ take count (drop from (now (input .entry))) ⌝ }
+{
+    let mut i = 0;
+    while i < count {
+        input[i] = input[from + i];
+        i += 1;
+    }
+}
+
+// What is left of the input, moved to the front and filled up.
+fn refilled(input: &mut [u8], from: usize, have: usize) -> Window
+    requires { ⌜ (from ≤ have) × (have ≤ length (now input)) ⌝ }
+    ensures { λ r. ⌜ Kept (now (input .entry)) from have (now (input .exit)) r ⌝ }
+{
+    let left = have - from;
+    move_front(&mut *input, from, left);
+    let room = input.len() - left;
+    let got = io::read_full(0, &mut input[left..]);
+    Window {
+        from: 0,
+        have: left + got,
+        more: got == room,
+    }
+}
+
+// The window with at least the longest record in it, or all that is left.
+fn enough(input: &mut [u8], window: Window) -> Window
+    requires { ⌜ Within window (length (now input)) ⌝ }
+    ensures { λ r. ⌜ Kept (now (input .entry)) (window .from) (window .have) (now (input .exit)) r ⌝ }
+{
+    let from = window.from;
+    let have = window.have;
+    if window.more {
+        if have - from < 65_537 {
+            return refilled(&mut *input, from, have);
+        }
+    }
+    window
+}
+
+// Writes the text so far.
+pub fn write_out(out: &[u8], at: usize)
+    requires { ⌜ at ≤ length (now out) ⌝ }
+{
+    io::write_all(1, &out[0..at]);
+}
+
+// Writes the text so far where little room is left; the place to go on at.
+fn flushed(out: &[u8], at: usize) -> usize
+    requires { ⌜ at ≤ length (now out) ⌝ }
+    ensures { λ r. ⌜ r ≤ 139840 ⌝ }
+{
+    if 139_840 < at {
+        write_out(out, at);
+        return 0;
+    }
+    at
+}
+
+// What the program holds between records: the state, the input that is read and not used, the place after the text so far, and
+// whether the run has ended.
+pub struct Session {
+    pub state: State,
+    pub window: Window,
+    pub at: usize,
+    pub ended: bool,
+}
+
+// Answers the next record of the input that is held; none is left where nothing is held.
+fn answer_held(
+    plan: Plan,
+    session: Session,
+    input: &[u8],
+    numbers: &mut [u64],
+    out: &mut [u8],
+) -> Session
+    requires { ⌜ PlanFits plan × (SessionFits session (length (now input)) × ((length (now numbers) ≡ 3328) × (length (now out) ≡ 262144))) ⌝ }
+    ensures { λ r. ⌜ SessionFits r (length (now (input .entry))) ⌝ }
+{
+    let window = session.window;
+    let from = window.from;
+    let have = window.have;
+    let state = session.state;
+    if from == have {
+        return Session {
+            state,
+            window,
+            at: session.at,
+            ended: true,
+        };
+    }
+    let at = flushed(&*out, session.at);
+    let next = answer_next(
+        plan,
+        &input[from..have],
+        state,
+        &mut *numbers,
+        &mut *out,
+        at,
+    );
+    let answer = next.answer;
+    let after = answer.state;
+    Session {
+        state: after,
+        window: Window {
+            from: from + next.length,
+            have,
+            more: window.more,
+        },
+        at: answer.end,
+        ended: answer.ended,
+    }
+}
+
+// Answers the next record, with enough of the input read before.
+pub fn answer_one(
+    plan: Plan,
+    session: Session,
+    input: &mut [u8],
+    numbers: &mut [u64],
+    out: &mut [u8],
+) -> Session
+    requires { ⌜ PlanFits plan × (SessionFits session (length (now input)) × ((length (now numbers) ≡ 3328) × (length (now out) ≡ 262144))) ⌝ }
+    ensures { λ r. ⌜ SessionFits r (length (now (input .entry))) ⌝ }
+{
+    let window = enough(&mut *input, session.window);
+    let state = session.state;
+    let ready = Session {
+        state,
+        window,
+        at: session.at,
+        ended: session.ended,
+    };
+    answer_held(plan, ready, &*input, &mut *numbers, &mut *out)
+}

@@ -1,0 +1,15 @@
+-- `version_fits` meets its contract.
+use borrow.Author.Needs.{needs}
+use Rattle.table.specs.Rules.{versionFits}
+use Rattle.table.proofs.version_fits.Statement.{statement}
+use Rattle.table.proofs.version_fits.Tie as tie
+
+byte-requires : tie.Need-byte-requires
+byte-requires c κs = tt
+
+returns : tie.Need-returns
+unfolding versionFits
+returns c = rw (c .byte .ensures .0)
+
+pub version-fits-spec : {M : Type 1} → statement M
+version-fits-spec = tie.close (tie.spec byte-requires returns)

@@ -1,0 +1,3 @@
+pub mod PlacesLaws
+pub mod DecimalLaws
+pub mod LineLaws

@@ -1,0 +1,36 @@
+"""Tables and records as bytes from plain Python values. Nothing is checked here: wrong values make the wrong tables that the tests need.
+
+A table is a dict: T, L, elements, gauges; an element a dict of ELEMENT_FIELDS, a gauge a dict of element, R, pieces (up to five of
+(top, a, b)) and, where it shall differ from the count of pieces, used.
+"""
+ELEMENT_FIELDS = (("kind", 1), ("down", 1), ("lag", 2), ("area", 4), ("f", 2), ("first_discharge", 4), ("first_variance", 4), ("W", 4),
+                  ("G", 4))
+
+
+def big_endian(value, size):
+    return (value % (1 << (8 * size))).to_bytes(size, "big")
+
+
+def element_bytes(element):
+    return b"".join(big_endian(element.get(name, 0), size) for name, size in ELEMENT_FIELDS)
+
+
+def gauge_bytes(gauge):
+    pieces = list(gauge["pieces"])
+    head = big_endian(gauge["element"], 1) + big_endian(gauge.get("used", len(pieces)), 1) + big_endian(gauge["R"], 4)
+    pieces += [(0, 0, 0)] * (5 - len(pieces))
+    return head + b"".join(big_endian(top, 2) + big_endian(a, 4) + big_endian(b, 2) for top, a, b in pieces)
+
+
+def table_bytes(table):
+    """`version`, `N`, `M` and `length` may be given to differ from what the rest says."""
+    elements, gauges = table["elements"], table["gauges"]
+    body = b"".join(map(element_bytes, elements)) + b"".join(map(gauge_bytes, gauges))
+    head = (big_endian(table.get("version", 1), 1) + big_endian(table["T"], 2) + big_endian(table["L"], 1)
+            + big_endian(table.get("N", len(elements)), 1) + big_endian(table.get("M", len(gauges)), 1))
+    return big_endian(table.get("length", 6 + len(body)), 4) + head + body
+
+
+def record_bytes(rains, stages, version=1, length=None):
+    body = big_endian(version, 1) + b"".join(big_endian(value, 2) for value in (*rains, *stages))
+    return big_endian(len(body) if length is None else length, 2) + body

@@ -1,0 +1,171 @@
+"""Document 01, "The run in fractions": the same steps with exact F, no rounding, no margins and no ceiling.
+
+It is fed an accepted table, the records of accepted steps and nothing else, decodes them by itself and keeps its own state, so that it
+shares no line with whole_numbers.py.
+
+Exact F is a fraction over lag^12 x 12!, some sixty digits; every step multiplies such fractions and a chain of elements multiplies them
+again, so the numbers have thousands of digits after a few steps. Runs for this judge are therefore short (some six steps with leads) or
+have few elements; for longer ones `Enclosure` below bounds the same run from both sides.
+"""
+from fractions import Fraction
+from functools import lru_cache
+from math import factorial
+from struct import iter_unpack, unpack, unpack_from
+
+
+@lru_cache(maxsize=4096)
+def exact_weight(step_minutes, lag):
+    """F: the sum, for m from 0 to 12, of -T / lag to the power m, over m factorial."""
+    ratio = Fraction(-step_minutes, lag)
+    return sum((ratio ** m / factorial(m) for m in range(13)), Fraction(0))
+
+
+class ExactNumbers:
+    """How the run works with its numbers: here as fractions."""
+
+    def of(self, fraction):
+        return Fraction(fraction)
+
+    def mix(self, weight, x, y):
+        """weight x X + (1 - weight) x Y, weight being an exact fraction."""
+        return weight * x + (1 - weight) * y
+
+    def square_mix(self, weight, v, u):
+        """The variance before W: F x F x v + (1 - F) x (1 - F) x u."""
+        return weight * weight * v + (1 - weight) * (1 - weight) * u
+
+    def corrected(self, x, v, z, noise):
+        """A reading: gain v / (v + R), discharge x + gain x (z - x), variance v x R / (v + R)."""
+        gain = v / (v + noise)
+        return x + gain * (z - x), v * noise / (v + noise)
+
+    def within(self, figure, exact, margin):
+        return abs(figure - exact) <= margin
+
+
+class Enclosed:
+    """A number of 0 or more known to lie between two whole multiples of 1 / 2^BITS."""
+    __slots__ = ("low", "high")
+
+    def __init__(self, low, high):
+        self.low, self.high = low, high
+
+    def __add__(self, other):
+        return Enclosed(self.low + other.low, self.high + other.high)
+
+
+class EnclosedNumbers:
+    """The same, each number between two bounds that are rounded outwards; no number is negative, so every bound is a bound's product.
+
+    `within` is right where it answers: it raises where the bounds do not decide, which at 256 bits is not met in practice.
+    """
+    BITS = 256
+
+    def of(self, fraction):
+        upper, lower = Fraction(fraction).numerator << self.BITS, Fraction(fraction).denominator
+        return Enclosed(upper // lower, -(-upper // lower))
+
+    def times(self, fraction, x):
+        upper, lower = fraction.numerator, fraction.denominator
+        return Enclosed(upper * x.low // lower, -(-upper * x.high // lower))
+
+    def mix(self, weight, x, y):
+        return self.times(weight, x) + self.times(1 - weight, y)
+
+    def square_mix(self, weight, v, u):
+        return self.times(weight * weight, v) + self.times((1 - weight) ** 2, u)
+
+    def corrected(self, x, v, z, noise):
+        # (R x X + v x z) / (v + R) and v x R / (v + R); both parts of the first and the second are monotone in v.
+        r = noise.low  # R is a whole number, so its bounds are equal
+        kept = Enclosed(r * x.low // (v.high + r), -(-r * x.high // (v.low + r)))
+        taken = Enclosed(v.low * z.low // (v.low + r), -(-v.high * z.high // (v.high + r)))
+        return kept + taken, Enclosed(v.low * r // (v.low + r), -(-v.high * r // (v.high + r)))
+
+    def within(self, figure, exact, margin):
+        low, high = (figure - margin) << self.BITS, (figure + margin) << self.BITS
+        if low <= exact.low and exact.high <= high:
+            return True
+        if exact.high < low or high < exact.low:
+            return False
+        raise ArithmeticError("the bounds do not decide")
+
+
+class FractionsRun:
+    """The run on one accepted table; `figures` holds (discharge, variance) by element, `steps` the step count."""
+
+    def __init__(self, table, numbers=ExactNumbers()):
+        self.numbers = numbers
+        self.step_minutes, self.leads, count, gauge_count = unpack_from(">HBBB", table, 5)
+        self.elements = list(iter_unpack(">BBHIHIIII", table[10:10 + 26 * count]))
+        self.gauges = []
+        for at in range(10 + 26 * count, 10 + 26 * count + 46 * gauge_count, 46):
+            element, used, noise = unpack_from(">BBI", table, at)
+            self.gauges.append((element, noise, list(iter_unpack(">HIh", table[at + 6:at + 6 + 8 * used]))))
+        self.basins = [place for place, element in enumerate(self.elements) if element[0] == 1]
+        self.above = [[higher for higher, element in enumerate(self.elements) if element[1] == place + 1] for place in range(count)]
+        self.read = set()  # places where a reading has come in
+        self.start()
+
+    def start(self):
+        self.steps = 0
+        self.figures = [(self.numbers.of(element[5]), self.numbers.of(element[6])) for element in self.elements]
+        self.rains = {place: [] for place in self.basins}
+        self.read = set()
+
+    def moved(self, figures, rain_inflow, readings):
+        """One step of all elements: rain_inflow(place) gives a basin's inflow and its variance, readings z and R by place."""
+        new = []
+        for place, (kind, _, lag, _, _, _, _, system_noise, _) in enumerate(self.elements):
+            if kind == 1:
+                inflow, inflow_variance = map(self.numbers.of, rain_inflow(place))
+            else:
+                inflow = inflow_variance = self.numbers.of(0)
+                for higher in self.above[place]:
+                    inflow, inflow_variance = inflow + new[higher][0], inflow_variance + new[higher][1]
+            weight = exact_weight(self.step_minutes, lag)
+            x = self.numbers.mix(weight, figures[place][0], inflow)
+            v = self.numbers.square_mix(weight, figures[place][1], inflow_variance) + self.numbers.of(system_noise)
+            if place in readings:
+                x, v = self.numbers.corrected(x, v, *map(self.numbers.of, readings[place]))
+            new.append((x, v))
+        return new
+
+    def step(self, record):
+        fields = unpack(f">{(len(record) - 3) // 2}H", record[3:])
+        rains = dict(zip(self.basins, fields))
+        readings = {}
+        for (element, noise, pieces), stage in zip(self.gauges, fields[len(rains):]):
+            if stage != 65_535:
+                _, a, b = next(piece for piece in pieces if stage < piece[0])
+                readings[element - 1] = Fraction(a * (stage + b) ** 2, 1_000), noise
+        self.read |= readings.keys()
+
+        def rain_inflow(place):
+            return Fraction(5 * rains[place] * self.elements[place][3] * self.elements[place][4], 18), 0
+
+        self.figures = self.moved(self.figures, rain_inflow, readings)
+        self.steps += 1
+        for place in self.basins:
+            self.rains[place] = [rains[place]] + self.rains[place][:2]
+
+    def forecast(self):
+        """(discharge, variance) by lead 0 to L, then by element; the run itself stays."""
+        by_lead = [self.figures]
+        for lead in range(1, self.leads + 1):
+
+            def rain_inflow(place):
+                _, _, _, area, runoff, _, _, _, rain_noise = self.elements[place]
+                mean = Fraction(sum(self.rains[place]), len(self.rains[place])) if self.rains[place] else 0
+                return mean * 5 * area * runoff / 18, lead * rain_noise
+
+            by_lead.append(self.moved(by_lead[-1], rain_inflow, {}))
+        return by_lead
+
+    def places_above(self):
+        """By place: the set of all places at or above it."""
+        sets = [{place} for place in range(len(self.elements))]
+        for place, element in enumerate(self.elements):
+            if element[1]:
+                sets[element[1] - 1] |= sets[place]  # all above an element stand before it
+        return sets

@@ -1,0 +1,42 @@
+"""Document 01, "Tried figures": all of them asked of whole_numbers.py. Those that a run can show are inputs of the program too."""
+from .encode import record_bytes, table_bytes
+from .program import run
+from .whole_numbers import Figures, Piece, Refused, RULES, SCALE, State, decode_table, piece_for, series_weight
+
+EXAMPLE_INPUT = bytes.fromhex("00000020 01 003C 01 01 00 01 00 003C 00000E10 03E8 00000000 00000000 00000000 000003E8 0003 01 0064")
+EXAMPLE_OUTPUT = b"1 1 0 63212055 3 0 6\n1 1 1 86466471 4 399 6\n"
+
+
+def refusal(call, *arguments):
+    try:
+        call(*arguments)
+    except Refused as refused:
+        return refused.number
+    return 0
+
+
+def one_reach(pieces, down=0):
+    return table_bytes(dict(T=60, L=1, elements=[dict(kind=2, down=down, lag=60)], gauges=[dict(element=1, R=1, pieces=pieces)]))
+
+
+def check():
+    """Raises AssertionError where a figure does not come out."""
+    assert series_weight(60, 60) == 367_879_441 and series_weight(1, 60_000) == 999_983_334
+    assert RULES.blend(3, 0, 4, 0, 500_000_000, 0) == (3, 3)
+    assert SCALE * 300 // (300 + 100) == 750_000_000
+    assert RULES.correct(Figures(1_000_000, 0, 300, 0), 2_000_000, 100) == Figures(1_750_000, 3, 75, 2)
+    assert RULES.correct(Figures(7, 0, 0, 0), 9, 1) == Figures(7, 3, 0, 2)
+    piece = Piece(30_001, 20_000, -500)
+    assert RULES.curve(piece, 1_500) == 20_000_000 and RULES.curve(piece, 500) == 0 and refusal(RULES.curve, piece, 499) == 14
+    curve = decode_table(one_reach([(1_000, 1, 0), (30_001, 2, 0)])).gauges[0]
+    assert piece_for(curve, 999).a == 1 and piece_for(curve, 1_000).a == 2
+    assert refusal(RULES.start, one_reach([(30_001, 1, 0)], down=1), State()) == 6
+    deep = one_reach([(30_001, 1, 0)])
+    started = RULES.start(deep, State())
+    assert refusal(RULES.step, deep, record_bytes((), (30_000,)), started) == 0
+    assert refusal(RULES.step, deep, record_bytes((), (30_001,)), started) == 13
+    wet = EXAMPLE_INPUT[:-5]
+    started = RULES.start(wet, State())
+    assert refusal(RULES.step, wet, record_bytes((3_000,), ()), started) == 0
+    assert refusal(RULES.step, wet, record_bytes((3_001,), ()), started) == 12
+    assert run(EXAMPLE_INPUT) == EXAMPLE_OUTPUT

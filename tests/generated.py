@@ -1,0 +1,106 @@
+#!/usr/bin/env python3
+"""Tries the built program on generated inputs and judges every output by judge.py.
+
+    python3 tests/generated.py [--long] [--seed S] [--only K] [program]
+
+The program is target/bin/cabinet unless another path is given; "calculator" stands for calculator/program.py itself, which must pass.
+The last line is "generated: N inputs, F failed"; the exit code is 0 only where none failed. The first twenty failing inputs
+are written to target/generated/; each can be tried again by its seed and number.
+"""
+import argparse
+import re
+import subprocess
+import sys
+import time
+from pathlib import Path
+
+from calculator import program, tried_figures
+from inputs import inputs, random_for
+from judge import judge, judged
+
+ROOT = Path(__file__).resolve().parent.parent
+TIME_LIMIT = 120  # seconds for one input
+MOST_SHOWN = 20  # failing inputs that are written out
+
+
+class Crashed(Exception):
+    pass
+
+
+def built_program(path):
+    """The program under test as a callable of input, and size of the pieces in which it is written (0: all at once)."""
+    def run(data, pieces=0):
+        process = subprocess.Popen([path], stdin=subprocess.PIPE, stdout=subprocess.PIPE, stderr=subprocess.PIPE)
+        if pieces:
+            # Short reads: the program must not take a read that brings less than it asked for as the end of the input.
+            for at in range(0, len(data), pieces):
+                try:
+                    process.stdin.write(data[at:at + pieces])
+                    process.stdin.flush()
+                except BrokenPipeError:
+                    break
+                time.sleep(0.0005)
+            data = b""
+        try:
+            output, errors = process.communicate(data, timeout=TIME_LIMIT)
+        except subprocess.TimeoutExpired:
+            process.kill()
+            process.communicate()
+            raise Crashed(f"no end within {TIME_LIMIT} s")
+        if process.returncode < 0:
+            raise Crashed(f"ended by signal {-process.returncode}: {errors[-200:]!r}")
+        return output
+    return run
+
+
+def calculator_program(data, pieces=0):
+    return program.run(data)
+
+
+def main():
+    parser = argparse.ArgumentParser(description=__doc__, formatter_class=argparse.RawDescriptionHelpFormatter)
+    parser.add_argument("program", nargs="?", default=str(ROOT / "target/bin/cabinet"))
+    parser.add_argument("--long", action="store_true", help="more than 10,000 inputs")
+    parser.add_argument("--seed", type=int, default=1)
+    parser.add_argument("--only", type=int, help="try the input of this number alone and show both outputs")
+    options = parser.parse_args()
+    if options.program != "calculator" and not Path(options.program).is_file():
+        sys.exit(f"{options.program} is not there; build the program first")
+    under_test = calculator_program if options.program == "calculator" else built_program(str(Path(options.program).resolve()))
+    tried_figures.check()
+    failures = Path(ROOT / "target/generated")
+    chosen = list(enumerate(inputs(options.long)))
+    if options.only is not None:
+        chosen = [chosen[options.only]]
+    started, failed, refusals = time.process_time(), 0, {}
+    for number, given in chosen:
+        data = given.build(random_for(options.seed, number))
+        expected = program.run(data)
+        for refusal in set(re.findall(rb"refused (\d+)", expected)):
+            refusals[int(refusal)] = refusals.get(int(refusal), 0) + 1
+        try:
+            output = under_test(data, given.pieces)
+            found = judge(data, output, expected, given.fractions)
+        except Crashed as crash:
+            output, found = b"", {"crash": str(crash)}
+        if found:
+            failed += 1
+        if found and failed <= MOST_SHOWN:
+            failures.mkdir(parents=True, exist_ok=True)
+            place = failures / f"{'long' if options.long else 'quick'}-{options.seed}-{number}.bin"
+            place.write_bytes(data)
+            again = f"--seed {options.seed} --only {number}" + (" --long" if options.long else "")
+            print(f"FAILED {again} ({given.family}), {len(data)} bytes in {place}")
+            for check, complaint in found.items():
+                print(f"  {check}: {complaint}")
+        if options.only is not None:
+            print(f"input: {data.hex()}\nexpected:\n{expected.decode()}output:\n{output.decode(errors='replace')}", end="")
+    print("inputs by refusal: " + ", ".join(f"{number}: {count}" for number, count in sorted(refusals.items())))
+    print("figures compared: " + ", ".join(f"{count} {way}" for way, count in judged.items()))
+    print(f"{time.process_time() - started:.0f} s in this process", file=sys.stderr)
+    print(f"generated: {len(chosen)} inputs, {failed} failed")
+    return 1 if failed else 0
+
+
+if __name__ == "__main__":
+    sys.exit(main())

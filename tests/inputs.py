@@ -1,0 +1,608 @@
+"""The inputs that the program is tried on, each built from a seed and its number, so that any one can be made again by itself.
+
+inputs(seed, long) lists them; nothing is built before it is asked for.
+"""
+from dataclasses import dataclass
+from pathlib import Path
+from random import Random
+from typing import Callable
+
+from calculator.encode import big_endian, record_bytes, table_bytes
+from calculator.tried_figures import EXAMPLE_INPUT as EXAMPLE
+
+YUBETSU = Path(__file__).resolve().parent.parent / "examples/yubetsu-2001/cabinet.bin"
+CEILING, GAP = 4_000_000_000, 65_535
+SHAPES = ("chain", "star", "forest", "tree", "lone")
+
+
+@dataclass
+class Input:
+    family: str
+    build: Callable  # of a Random, gives the bytes
+    fractions: bool = True  # whether the run in fractions judges it
+    pieces: int = 0  # above 0: written to the program in pieces of so many bytes
+
+
+# ---- Rivers --------------------------------------------------------------------------------------------------------------------------
+
+
+def basin(down=0, lag=60, area=3_600, f=1_000, **rest):
+    return dict(kind=1, down=down, lag=lag, area=area, f=f, **rest)
+
+
+def reach(down=0, lag=60, **rest):
+    return dict(kind=2, down=down, lag=lag, **rest)
+
+
+def gauge(element, R=200, pieces=((30_001, 20_000, -500),), **rest):
+    return dict(element=element, R=R, pieces=list(pieces), **rest)
+
+
+def small_table(**changes):
+    """Two basins, two reaches, two gauges: all that rules 5 to 14 look at, in 206 bytes."""
+    return dict(T=60, L=2, elements=[
+        basin(down=3, first_discharge=1_000_000, first_variance=300, W=10, G=1_000), basin(down=4, lag=90, area=900, f=500, W=7, G=50),
+        reach(down=4, lag=120, first_discharge=2_000_000, first_variance=400, W=50), reach(lag=61, W=3)],
+        gauges=[gauge(3), gauge(4, R=5_000, pieces=[(1_000, 30_000, 0), (2_000, 20_000, 300), (30_001, 100, 30_000)])]) | changes
+
+
+SMALL_RECORDS = [((100, 0), (1_500, GAP)), ((35, 3_000), (GAP, 999)), ((0, 10), (1_499, 1_000))]
+
+
+def whole_input(table, records):
+    return table_bytes(table) + b"".join(record_bytes(*record) for record in records)
+
+
+def some_lag(random, step_minutes, way):
+    if way == "equal":
+        return step_minutes
+    if way == "multiple":
+        return step_minutes * random.randint(1, min(20, 60_000 // step_minutes))
+    return random.choice((60_000, random.randint(step_minutes, 60_000), random.randint(step_minutes, min(60_000, 8 * step_minutes))))
+
+
+def river_kinds(random, shape, count):
+    if shape == "chain":
+        return [random.choice((1, 2))] + [2] * (count - 1)
+    if shape == "star":
+        return [random.choice((1, 1, 1, 2)) for _ in range(count - 1)] + [2 if count > 1 else random.choice((1, 2))]
+    if shape == "lone":
+        return [random.choice((1, 2)) for _ in range(count)]
+    return [random.choice((1, 1, 2, 2, 2)) for _ in range(count - 1)] + [random.choice((1, 2, 2))]
+
+
+def river_down(random, shape, kinds, number):
+    later = [other for other in range(number + 1, len(kinds) + 1) if kinds[other - 1] == 2]
+    if shape == "lone" or not later:
+        return 0
+    if shape == "chain":
+        return later[0]
+    if shape == "star":
+        return later[-1]
+    if shape == "forest" and random.random() < 0.3:
+        return 0
+    return random.choice(later[:random.choice((1, 3, 64))])
+
+
+def some_curve(random):
+    used = random.randint(1, 5)
+    tops = sorted(random.sample(range(1, 30_001), used - 1)) if random.random() < 0.5 else sorted(random.sample(range(1, 4_000), used - 1))
+    pieces = []
+    for top in [*tops, 30_001]:
+        a = random.choice((random.randint(1, 100_000), random.randint(1, 1_000_000), 1, 1_000_000))
+        pieces.append((top, a, random.choice((random.randint(-600, 600), random.randint(-30_000, 30_000), 0, -30_000, 30_000))))
+    return pieces
+
+
+def reading_of(pieces, stage):
+    """The curve's discharge at a stage; None where rule 14 refuses it. Only used to draw stages that pass."""
+    _, a, b = next(piece for piece in pieces if stage < piece[0])
+    z = a * (stage + b) ** 2 // 1_000
+    return z if stage + b >= 0 and z <= CEILING else None
+
+
+def some_stage(random, pieces):
+    """A stage that the curve takes, often at a break (top - 1, top) or just where the depth is 0; a gap where none was found."""
+    for _ in range(6):
+        top, _, b = random.choice(pieces)
+        stage = random.choice((top - 1, min(top, 30_000), max(0, min(30_000, -b)), random.randint(0, 30_000), random.randint(0, 3_000)))
+        stage = max(0, min(30_000, stage))
+        if reading_of(pieces, stage) is not None:
+            return stage
+    return GAP
+
+
+def some_table(random, count, shape, way, leads=None, gauge_count=None):
+    """A valid table. way: typical, zero, ceiling or wild values."""
+    step_minutes = random.choice((1, 10, 60, 60, 60, 1_440, random.randint(1, 1_440)))
+    lags = random.choice(("equal", "multiple", "multiple", "any"))
+    kinds = river_kinds(random, shape, count)
+    elements = []
+    for number, kind in enumerate(kinds, 1):
+        element = dict(kind=kind, down=river_down(random, shape, kinds, number), lag=some_lag(random, step_minutes, lags))
+        if way == "typical":
+            element |= dict(first_discharge=random.randint(0, CEILING // (2 * count)),
+                            first_variance=random.randint(0, 10_000_000 // count), W=random.randint(0, 500_000))
+        elif way == "ceiling":
+            element |= dict(first_discharge=random.choice((0, CEILING, CEILING - 1)),
+                            first_variance=random.choice((0, CEILING, CEILING - 1)), W=random.choice((0, 1, 100_000_000)))
+        elif way == "wild":
+            element |= dict(first_discharge=random.randint(0, CEILING), first_variance=random.randint(0, CEILING),
+                            W=random.randint(0, 100_000_000))
+        if kind == 1:
+            element |= dict(area=1, f=0)
+            if way == "typical":
+                element |= dict(area=random.randint(1, max(1, 28_000 // count)), f=random.randint(0, 1_000), G=random.randint(0, 1_000_000))
+            elif way == "ceiling":
+                element |= dict(area=random.choice((1, 400_000)), f=random.choice((0, 1, 1_000)), G=random.choice((0, 100_000_000)))
+            elif way == "wild":
+                element |= dict(area=random.randint(1, 400_000), f=random.randint(0, 1_000), G=random.randint(0, 100_000_000))
+        elements.append(element)
+    if gauge_count is None:
+        gauge_count = random.choice((0, 1, 2, random.randint(0, 16)))
+    gauges = []
+    for number in sorted(random.sample(range(1, count + 1), min(count, gauge_count, 16))):
+        noise = random.choice((1, random.randint(1, 1_000), random.randint(1, 1_000_000), CEILING))
+        gauges.append(gauge(number, R=noise, pieces=some_curve(random)))
+    return dict(T=step_minutes, L=leads or random.choice((1, 2, 3, 12)), elements=elements, gauges=gauges)
+
+
+def some_records(random, table, steps, way):
+    basins = sum(element["kind"] == 1 for element in table["elements"])
+    records = []
+    for _ in range(steps):
+        if way == "zero":
+            rains = [0] * basins
+        elif way == "typical":
+            rains = [random.choice((0, 0, 1, random.randint(0, 500))) for _ in range(basins)]
+        else:
+            rains = [random.choice((0, 1, 36, random.randint(0, 3_000), 3_000)) for _ in range(basins)]
+        stages = [GAP if random.random() < 0.4 else some_stage(random, gauge["pieces"]) for gauge in table["gauges"]]
+        records.append((rains, stages))
+    return records
+
+
+WAYS = ("typical", "typical", "typical", "zero", "ceiling", "wild")
+
+
+def some_river(random, counts=(1, 2, 3, 4, 5, 8), steps=(1, 2, 3, 6), ways=WAYS, **rest):
+    way, shape = random.choice(ways), random.choice(SHAPES)
+    table = some_table(random, random.choice(counts), shape, way, **rest)
+    return table, some_records(random, table, random.choice(steps), way)
+
+
+# ---- Document 01's tried figures -------------------------------------------------------------------------------------------------------
+
+
+def tried_figures():
+    one_gauge = dict(T=60, L=1, elements=[reach(first_discharge=1_000_000, W=300)], gauges=[gauge(1, R=100)])
+    two_pieces = dict(T=60, L=1, elements=[reach(W=300)], gauges=[gauge(1, pieces=[(1_000, 20_000, 0), (30_001, 30_000, 0)])])
+    deep = dict(T=60, L=1, elements=[reach(W=300)], gauges=[gauge(1, pieces=[(30_001, 1, 0)])])
+    small_rain = dict(T=60, L=1, elements=[basin(area=10)], gauges=[])
+    yield "example", EXAMPLE
+    yield "T 60, lag 60", whole_input(dict(T=60, L=12, elements=[reach(first_discharge=1_000_000_000)], gauges=[]), [((), ())])
+    yield "T 1, lag 60000", whole_input(dict(T=1, L=12, elements=[reach(lag=60_000, first_discharge=1_000_000_000)], gauges=[]), [((), ())])
+    for stage in (1_500, 500, 499):
+        yield f"stage {stage}", whole_input(one_gauge, [((), (stage,)), ((), (GAP,))])
+    for stage in (999, 1_000):
+        yield f"tops, stage {stage}", whole_input(two_pieces, [((), (stage,))])
+    for rain in (3_000, 3_001):
+        yield f"rain {rain}", whole_input(small_rain, [((rain,), ()), ((0,), ())])
+    for stage in (30_000, 30_001):
+        yield f"stage {stage}", whole_input(deep, [((), (stage,)), ((), (GAP,))])
+    yield "element 1 with down 1", whole_input(dict(T=60, L=1, elements=[reach(down=1)], gauges=[]), [((), ())])
+    yield "K 750,000,000", whole_input(one_gauge, [((), (1_500,)), ((), (1_500,))])
+    yield "P 0", whole_input(dict(one_gauge, elements=[reach(first_discharge=7)], gauges=[gauge(1, R=1)]), [((), (500,)), ((), (501,))])
+
+
+# ---- Each refusal exactly on its condition and just off it -----------------------------------------------------------------------------
+
+
+def with_element(place, **changes):
+    def edit(table, records):
+        table["elements"][place] |= changes
+    return edit
+
+
+def with_gauge(place, **changes):
+    def edit(table, records):
+        table["gauges"][place] |= changes
+    return edit
+
+
+def with_head(**changes):
+    def edit(table, records):
+        table |= changes
+    return edit
+
+
+def with_record(which, rains=None, stages=None, **changes):
+    def edit(table, records):
+        old = records[which]
+        records[which] = (rains if rains is not None else old[0], stages if stages is not None else old[1], *old[2:])
+        if changes:
+            records[which] = (*records[which][:2], changes.get("version", 1), changes.get("length"))
+    return edit
+
+
+def three_pieces(place, **changes):
+    """The second gauge's curve with one number changed."""
+    def edit(table, records):
+        pieces = [list(piece) for piece in table["gauges"][1]["pieces"]]
+        pieces += [[0, 0, 0]] * (5 - len(pieces))
+        for which, name in enumerate(("top", "a", "b")):
+            if name in changes:
+                pieces[place] = [*pieces[place][:which], changes[name], *pieces[place][which + 1:]]
+        table["gauges"][1] |= dict(pieces=[tuple(piece) for piece in pieces], used=changes.get("used", 3))
+    return edit
+
+
+def rule_edits():
+    """(rule it is about, edit of the small table and its records). Values on both sides of every limit."""
+    edits = []
+
+    def add(rule, *more):
+        edits.extend((rule, edit) for edit in more)
+
+    right = len(table_bytes(small_table())) - 4
+    lengths = (0, 5, 6, right - 1, right + 1, right - 26, right + 26, 2_406, 2_407, 65_536 + right, 2 ** 32 - 1)
+    add(1, *(with_head(length=length) for length in lengths))
+    add(2, *(with_head(version=version) for version in (0, 1, 2, 255)))
+    add(3, *(with_head(T=T) for T in (0, 1, 59, 60, 61, 1_440, 1_441, 65_535)))
+    add(3, *(with_head(L=L) for L in (0, 1, 12, 13, 255)))
+    add(3, *(with_head(N=N) for N in (0, 1, 3, 4, 5, 64, 65, 255)))
+    add(3, *(with_head(M=M) for M in (0, 1, 2, 3, 16, 17, 255)))
+    add(4, with_head(N=4, M=1), with_head(N=5, M=2), with_head(N=3, M=2), with_head(N=4, M=3))
+    for place in (0, 1, 2, 3):
+        add(5, *(with_element(place, kind=kind) for kind in (0, 1, 2, 3, 255)))
+        add(5, *(with_element(place, lag=lag) for lag in (0, 59, 60, 60_000, 60_001, 65_535)))
+        for name in ("first_discharge", "first_variance"):
+            add(5, *(with_element(place, **{name: value}) for value in (0, CEILING, CEILING + 1, 2 ** 32 - 1)))
+        add(5, *(with_element(place, W=W) for W in (0, 100_000_000, 100_000_001, 2 ** 31)))
+        add(5, *(with_element(place, G=G) for G in (0, 1, 100_000_000, 100_000_001)))
+        add(5, *(with_element(place, area=area) for area in (0, 1, 400_000, 400_001, 2 ** 31)))
+        add(5, *(with_element(place, f=f) for f in (0, 1, 1_000, 1_001, 65_535)))
+        add(6, *(with_element(place, down=down) for down in (0, 1, 2, 3, 4, 5, 64, 255)))
+    for place in (0, 1):
+        add(7, *(with_gauge(place, element=element) for element in (0, 1, 2, 3, 4, 5, 255)))
+        add(7, *(with_gauge(place, R=R) for R in (0, 1, CEILING, CEILING + 1)))
+        add(7, *(with_gauge(place, used=used) for used in (0, 1, 2, 3, 4, 5, 6, 255)))
+    add(7, *(three_pieces(0, top=top) for top in (0, 1, 999, 1_999, 2_000, 2_001, 30_001)))
+    add(7, *(three_pieces(1, top=top) for top in (0, 1_000, 1_001, 30_000, 30_001, 30_002)))
+    add(7, *(three_pieces(2, top=top) for top in (0, 30_000, 30_001, 30_002, 65_535)))
+    add(7, *(three_pieces(4, used=4, **{name: 1}) for name in ("top", "a", "b")))
+    for place in (0, 1, 2):
+        add(7, *(three_pieces(place, a=a) for a in (0, 1, 1_000_000, 1_000_001, 2 ** 32 - 1)))
+        add(7, *(three_pieces(place, b=b) for b in (-32_768, -30_001, -30_000, 0, 30_000, 30_001, 32_767)))
+    add(7, *(three_pieces(place, **{name: 1}) for place in (3, 4) for name in ("top", "a", "b")))
+    for which in (0, 2):
+        add(10, *(with_record(which, length=length) for length in (0, 1, 2, 7, 8, 9, 10, 11, 13, 65_535)))
+        add(10, with_record(which, rains=(1,)), with_record(which, rains=(1, 2, 3)), with_record(which, stages=()))
+        add(11, *(with_record(which, version=version) for version in (0, 1, 2, 255)))
+        for rain in (2_999, 3_000, 3_001, GAP):
+            add(12, with_record(which, rains=(rain, 0)), with_record(which, rains=(0, rain)))
+        for stage in (29_999, 30_000, 30_001, 65_534, GAP):
+            add(13, with_record(which, stages=(stage, GAP)), with_record(which, stages=(GAP, stage)))
+        for stage in (0, 499, 500, 501, 14_641, 14_642, 14_643):  # z of the first gauge passes C between 14,642 and 14,643
+            add(14, with_record(which, stages=(stage, GAP)), with_record(which, stages=(stage, stage)))
+    return edits
+
+
+def edited(edits):
+    table, records = small_table(), list(SMALL_RECORDS)
+    for edit in edits:
+        edit(table, records)
+    return whole_input(table, records)
+
+
+def several_edits(random):
+    """Two to four edits at once, of the table and the records or of the records alone: the lowest number that applies wins."""
+    lowest = random.choice((1, 5, 10, 10))
+    edits = [(rule, edit) for rule, edit in rule_edits() if rule >= lowest]
+    rules = random.sample(sorted({rule for rule, _ in edits}), random.choice((2, 2, 3, 4)))
+    return edited([random.choice([edit for about, edit in edits if about == rule]) for rule in rules])
+
+
+def lowest_wins():
+    """Pairs in which the higher number is met first on the way through the bytes."""
+    deep, high = (499, 30_001), (30_001, 499)
+    yield "6 in element 1, 5 in element 4", edited([with_element(0, down=1), with_element(3, lag=1)])
+    yield "7 in gauge 1, 6 in element 4", edited([with_gauge(0, R=0), with_element(3, down=4)])
+    yield "5 in element 1, 4", edited([with_element(0, kind=0), with_head(N=5)])
+    yield "7 by order, 5 in element 4", edited([with_gauge(1, element=3), with_element(3, area=1)])
+    yield "3 and 2", edited([with_head(T=0, version=2)])
+    yield "4 and 3", edited([with_head(L=0, N=5)])
+    yield "14 in gauge 1, 13 in gauge 2", edited([with_record(0, stages=deep)])
+    yield "13 in gauge 1, 14 in gauge 2", edited([with_record(0, stages=high)])
+    yield "13 in gauge 1, 12 in basin 2", edited([with_record(0, rains=(0, 3_001), stages=high)])
+    yield "12 and 11", edited([with_record(1, rains=(3_001, 0), version=0)])
+    yield "11 and 10", edited([with_record(1, rains=(3_001,), version=0)])
+    yield "16 in element 1, 14 in gauge 2", edited([with_element(0, area=400_000), with_record(0, rains=(3_000, 0), stages=(GAP, 29_999)),
+                                                    three_pieces(2, b=-30_000), with_record(1, rains=(3_000, 0), stages=(GAP, 30_000))])
+    # 24 elements told as 1 element and 13 gauges: the length is right either way (23 x 26 = 13 x 46).
+    told = dict(T=60, L=1, N=1, M=13, elements=[reach() for _ in range(24)], gauges=[])
+    yield "24 elements told as 1 and 13 gauges", whole_input(told, [((), ())])
+    yield "a record of 65,535 bytes and a good one", edited([])[:-11] + big_endian(65_535, 2) + bytes([1]) * 65_535 + edited([])[-11:]
+
+
+def ceiling_of_curve():
+    """Rule 14: z exactly C, C and a rest that is rounded away, and C + 1."""
+    def at(a, depth):
+        table = dict(T=60, L=1, elements=[reach(first_discharge=CEILING, W=100)], gauges=[gauge(1, R=100, pieces=[(30_001, a, 0)])])
+        return whole_input(table, [((), (depth,)), ((), (GAP,))])
+    for name, a, depth in (("z is C", 1_000_000, 2_000), ("z rounds down to C", 759_442, 2_295), ("z is C + 1", 268_742, 3_858),
+                           ("z is C - 4", 768_793, 2_281), ("z is far above C", 1_000_000, 2_001)):
+        yield name, at(a, depth)
+
+
+def weight_of(step_minutes, lag):
+    """H once more, only to draw numbers near the ceiling."""
+    h = 10 ** 9
+    for m in range(12, 0, -1):
+        h = 10 ** 9 - step_minutes * h // (lag * m)
+    return h
+
+
+def least_before(number, weight):
+    """The least number that a blend with 0 by this weight brings to `number`."""
+    return -(-number * 10 ** 9 // weight)
+
+
+def ceiling_of_numbers():
+    """Rule 16 exactly on its condition and just off it, by each kind of number that a run of the program can bring there."""
+    for name, product in (("inflow is C", 14_400_000_000), ("inflow rounds down to C", 14_400_000_003), ("inflow is C + 1", 14_400_000_004),
+                          ("inflow far above C", 3_000 * 400_000 * 1_000)):
+        rain, area, f = next((rain, product // rain // f, f) for f in range(1_000, 0, -1) for rain in range(1, 3_001)
+                             if product % (rain * f) == 0 and product // rain // f <= 400_000)
+        table = dict(T=60, L=2, elements=[basin(area=area, f=f)], gauges=[])
+        yield name, whole_input(table, [((rain,), ()), ((0,), ()), ((rain,), ())])
+    H = weight_of(1, 60_000)
+    kept = H * CEILING // 10 ** 9
+    needed = least_before(CEILING - kept, H)
+    for more in (-1, 0, 1, 2):
+        table = dict(T=1, L=1, elements=[reach(down=3, lag=60_000, first_discharge=CEILING),
+                                         reach(down=3, lag=60_000, first_discharge=needed + more), reach(lag=60_000)], gauges=[])
+        yield f"reach inflow near C, {more}", whole_input(table, [((), ())] * 3)
+    once = H * (H * CEILING // 10 ** 9) // 10 ** 9  # the ceiling's variance after one step
+    needed = least_before(least_before(CEILING - once, H), H)
+    for more in (-1, 0, 1, 2):
+        table = dict(T=1, L=1, elements=[reach(down=3, lag=60_000, first_variance=CEILING),
+                                         reach(down=3, lag=60_000, first_variance=needed + more), reach(lag=60_000)], gauges=[])
+        yield f"reach inflow variance near C, {more}", whole_input(table, [((), ())] * 3)
+    for more in (-1, 0, 1):
+        table = dict(T=1, L=1, elements=[reach(lag=60_000, first_variance=CEILING, W=CEILING - once + more)], gauges=[])
+        yield f"variance with W near C, {more}", whole_input(table, [((), ())] * 2)
+        # The first step passes and a lead does not: the step is kept and counted.
+        for leads in (1, 2, 12):
+            variance, W = CEILING, 100_000_000
+            for _ in range(leads + 1):
+                variance = least_before(least_before(variance - W, H), H)
+            table = dict(T=1, L=leads, elements=[reach(lag=60_000, first_variance=variance + more, W=W)], gauges=[])
+            yield f"variance of lead {leads} near C, {more}", whole_input(table, [((), ())] * 3)
+    # A reading of z = C with gain 0 and gain margin S: the correction's blend has margin C - discharge + 10.
+    for first in (0, 22, 24, 25, 27, 28, 30, 33):
+        table = dict(T=60, L=2, elements=[reach(first_discharge=first)], gauges=[gauge(1, R=1, pieces=[(30_001, 1_000_000, 0)])])
+        yield f"correction margin near C, first discharge {first}", whole_input(table, [((), (2_000,)), ((), (GAP,)), ((), (2_000,))])
+    # Two such margins of about half of C meet in a reach.
+    exactly = least_before(1_414 ** 2 * 1_000 + 1_415 ** 2 * 1_000 + 20 - CEILING, weight_of(60, 60))
+    for first, second, less in ((1_400, 1_400, 0), (1_414, 1_414, 0), (1_415, 1_415, 0), (1_414, 1_415, 0), (1_999, 100, 0), (1_999, 10, 0),
+                                (1_414, 1_415, exactly - 3), (1_414, 1_415, exactly), (1_414, 1_415, exactly + 3)):
+        table = dict(T=60, L=2, elements=[reach(down=3), reach(down=3, first_discharge=less), reach(down=4), reach()],
+                     gauges=[gauge(1, R=1, pieces=[(30_001, 1_000_000, 0)]), gauge(2, R=1, pieces=[(30_001, 1_000_000, 0)])])
+        records = [((), (first, second)), ((), (GAP, GAP))]
+        yield f"inflow margin by stages {first} and {second}, first discharge {less}", whole_input(table, records)
+    # Many basins with the highest rain noise: a reach's inflow variance passes C at a late lead only.
+    for count in (4, 8, 20, 40, 63):
+        table = dict(T=60, L=12, elements=[basin(down=count + 1, area=1, G=100_000_000) for _ in range(count)] + [reach()], gauges=[])
+        yield f"lead variance of {count} basins", whole_input(table, [((1,) * count, ())] * 2)
+
+
+# ---- Cut, spoiled and random inputs ----------------------------------------------------------------------------------------------------
+
+
+def two_element_input():
+    table = dict(T=60, L=1, elements=[basin(down=2), reach(lag=120, first_discharge=2_000_000, first_variance=400, W=50)],
+                 gauges=[gauge(2)])
+    return whole_input(table, [((100,), (1_400,)), ((50,), (GAP,))])
+
+
+def spoiled_values(byte):
+    return [value for value in dict.fromkeys((byte ^ 1, byte ^ 128, 0, 255, (byte + 1) % 256)) if value != byte]
+
+
+def spoiled(data, at, value):
+    return data[:at] + bytes([value]) + data[at + 1:]
+
+
+def spoiled_river(random):
+    data = bytearray(whole_input(*some_river(random)))
+    for _ in range(random.choice((1, 1, 2, 5))):
+        data[random.randrange(len(data))] = random.choice((0, 1, 255, random.randrange(256)))
+    return bytes(data)
+
+
+def cut_river(random):
+    data = whole_input(*some_river(random))
+    return data[:random.randrange(len(data) + 1)]
+
+
+def lengthened_river(random):
+    """Bytes put in or taken out inside, so that every later record is cut in another place."""
+    data = whole_input(*some_river(random))
+    at = random.randrange(len(data) + 1)
+    if random.random() < 0.5:
+        return data[:at] + random.randbytes(random.choice((1, 2, 7))) + data[at:]
+    return data[:at] + data[at + random.choice((1, 2)):]
+
+
+def random_bytes(random):
+    return random.randbytes(random.choice((0, 1, 3, 4, 9, 10, 36, random.randrange(5_000))))
+
+
+def random_table(random):
+    """A header that passes rules 1 to 4 and noise after it."""
+    count, gauge_count = random.randint(1, 4), random.randint(0, 2)
+    size = 26 * count + 46 * gauge_count
+    head = big_endian(6 + size, 4) + bytes([1]) + big_endian(random.randint(1, 1_440), 2)
+    return head + bytes([random.randint(1, 12), count, gauge_count]) + random.randbytes(size + random.randrange(40))
+
+
+def random_records(random):
+    table, _ = some_river(random)
+    data = table_bytes(table)
+    for _ in range(random.choice((1, 3, 10))):
+        body = random.randbytes(random.choice((0, 1, 3, 5, 1 + 2 * (len(table["elements"]) + len(table["gauges"])))))
+        data += big_endian(len(body), 2) + body
+    return data
+
+
+def mixed_records(random):
+    """Accepted and refused records of every kind in one run."""
+    table, records = some_river(random, steps=(8, 20), ways=("typical", "typical", "ceiling", "wild"))
+    data = table_bytes(table)
+    for rains, stages in records:
+        rains, stages, version = list(rains), list(stages), 1
+        for _ in range(random.choice((0, 0, 1, 2))):
+            trouble = random.choice(("version", "rain", "stage", "depth"))
+            if trouble == "version":
+                version = random.choice((0, 2, 255))
+            elif trouble == "rain" and rains:
+                rains[random.randrange(len(rains))] = random.choice((3_000, 3_001, GAP))
+            elif trouble == "stage" and stages:
+                stages[random.randrange(len(stages))] = random.choice((30_000, 30_001, 65_534))
+            elif trouble == "depth" and stages:
+                stages[random.randrange(len(stages))] = random.randint(0, 30_000)
+        data += record_bytes(rains, stages, version)
+    if random.random() < 0.3:
+        data += random.choice((b"\0", b"\0\0", b"\0\1\2", b"\xff\xff\1"))
+    return data
+
+
+# ---- The longest table, the most steps, the most records ---------------------------------------------------------------------------------
+
+
+def longest_river(random, extra=b"", length=2_406, steps=1, leads=1):
+    table = some_table(random, 64, random.choice(SHAPES), "typical", leads=leads, gauge_count=16)
+    records = some_records(random, table, steps, "typical")
+    data = table_bytes(table | dict(length=length))
+    return data + extra + b"".join(record_bytes(*record) for record in records)
+
+
+def sixty_five_elements(random):
+    """65 elements and no gauge fit into 2,410 bytes: refused 3. With 16 gauges they do not: refused 1."""
+    gauges = [gauge(number) for number in range(1, random.choice((1, 17)))]
+    return whole_input(dict(T=60, L=1, elements=[reach() for _ in range(65)], gauges=gauges), [((), ())])
+
+
+def ten_thousand_steps(last, steps=10_000):
+    table = dict(T=60, L=1, elements=[basin(area=1_000, f=700, first_discharge=5_000_000, W=20, G=30)], gauges=[gauge(1, R=300)])
+    def build(random):
+        records = [((random.choice((0, 0, 5, 80)),), (random.choice((GAP, GAP, random.randint(500, 4_000))),)) for _ in range(steps)]
+        return whole_input(table, records) + last
+    return build
+
+
+def many_records(record, count, last):
+    table = dict(T=60, L=1, elements=[reach(first_discharge=1_000_000)], gauges=[])
+    return lambda random: table_bytes(table) + record * count + last
+
+
+def many_rain_refusals(random):
+    table = dict(T=60, L=1, elements=[basin()], gauges=[])
+    good = record_bytes((10,), ())
+    return table_bytes(table) + record_bytes((3_001,), ()) * 99_998 + good * 4
+
+
+# ---- The list ------------------------------------------------------------------------------------------------------------------------
+
+
+def fixed(data):
+    return lambda random: data
+
+
+def inputs(long=False):
+    found = []
+
+    def add(family, build, **rest):
+        found.append(Input(family, build, **rest))
+
+    for name, data in tried_figures():
+        add(f"tried figure: {name}", fixed(data))
+    for name, data in (*ceiling_of_curve(), *ceiling_of_numbers()):
+        add(f"ceiling: {name}", fixed(data))
+    for name, data in lowest_wins():
+        add(f"lowest wins: {name}", fixed(data))
+    add("Yubetsu 2001", lambda random: YUBETSU.read_bytes())
+    add("empty input", fixed(b""))
+    add("no record", fixed(EXAMPLE[:-5]))
+    small = edited([])
+    add("small table", fixed(small))
+    for rule, edit in rule_edits():
+        add(f"rule {rule}", lambda random, edit=edit: edited([edit]))
+    for _ in range(2_000 if long else 120):
+        add("several rules", several_edits)
+    two = two_element_input()
+    for at in range(len(EXAMPLE)):
+        add(f"example cut at {at}", fixed(EXAMPLE[:at]))
+    for at in range(0, len(two), 1 if long else 3):
+        add(f"two elements cut at {at}", fixed(two[:at]))
+    for at in range(0, len(small)):
+        if long:
+            add(f"small table cut at {at}", fixed(small[:at]))
+    for at in range(len(EXAMPLE)):
+        for value in spoiled_values(EXAMPLE[at])[:None if long else 3]:
+            add(f"example spoiled at {at} by {value}", fixed(spoiled(EXAMPLE, at, value)))
+    for data, name in ((two, "two elements"), (small, "small table")):
+        for at in range(0, len(data), 1 if long else 4):
+            for value in spoiled_values(data[at])[:None if long else 1]:
+                add(f"{name} spoiled at {at} by {value}", fixed(spoiled(data, at, value)))
+    for build, quick, many in ((spoiled_river, 50, 1_500), (cut_river, 30, 800), (lengthened_river, 20, 500), (random_bytes, 15, 300),
+                               (random_table, 15, 300), (random_records, 20, 500), (mixed_records, 40, 1_000)):
+        for _ in range(many if long else quick):
+            add(build.__name__, build)
+    for shape in SHAPES:
+        for way in ("typical", "zero", "ceiling", "wild"):
+            for count in (1, 2, 5):
+
+                def build(random, shape=shape, way=way, count=count):
+                    table = some_table(random, count, shape, way)
+                    return whole_input(table, some_records(random, table, 3, way))
+
+                for _ in range(20 if long else 1):
+                    add(f"{shape} of {count}, {way}", build)
+    for _ in range(2_500 if long else 110):
+        add("river", lambda random: whole_input(*some_river(random)))
+    for _ in range(200 if long else 8):
+        add("long river", lambda random: whole_input(*some_river(random, steps=(25, 60), leads=2)))
+    for _ in range(100 if long else 4):
+        add("river of 64", lambda random: whole_input(*some_river(random, counts=(64,), steps=(1, 3), ways=("typical", "typical", "wild"))))
+    add("longest table", longest_river)
+    add("longest table, 12 leads", lambda random: longest_river(random, leads=12, steps=2))
+    add("longest table in pieces", lambda random: longest_river(random, steps=3), pieces=997)
+    add("longest table cut", lambda random: longest_river(random, steps=0)[:-1])
+    add("one byte more", lambda random: longest_river(random, extra=b"\0", length=2_407))
+    add("one byte more, not there", lambda random: longest_river(random, length=2_407, steps=0))
+    add("one byte more, not counted", lambda random: longest_river(random, extra=b"\0"))
+    for _ in range(4):
+        add("65 elements", sixty_five_elements)
+    for pieces in (1, 2, 3, 7):
+        add("in pieces", fixed(two), pieces=pieces)
+    good = record_bytes((10,), (1_000,))
+    add("10,000 steps", ten_thousand_steps(b""), fractions=False)
+    add("10,000 steps and one more", ten_thousand_steps(good + good), fractions=False)
+    if long:
+        add("9,999 steps and three more", ten_thousand_steps(good * 3, 9_999), fractions=False)
+        for last in (b"\0", b"\0\1", b"\0\1\1", b"\0\1\2", record_bytes((3_001,), (1_000,))):
+            add("10,000 steps and a wrong one", ten_thousand_steps(last), fractions=False)
+    refused, accepted = record_bytes((), (), version=2), record_bytes((), ())
+    add("100,000 records", many_records(refused, 99_999, accepted), fractions=False)
+    add("more than 100,000 records", many_records(refused, 100_000, accepted + b"\0"), fractions=False)
+    if long:
+        add("more than 100,000 records, a cut one", many_records(refused, 100_000, b"\0"), fractions=False)
+        add("99,999 records and a cut one", many_records(refused, 99_999, b"\0\1"), fractions=False)
+        add("rain refusals beyond 100,000", many_rain_refusals, fractions=False)
+    return found
+
+
+def random_for(seed, number):
+    return Random(f"{seed}/{number}")

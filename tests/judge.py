@@ -1,0 +1,143 @@
+"""What judges one output of the program: four checks, each by itself.
+
+  bytes      the output is, byte for byte, that of calculator/program.py
+  form       the output has document 01's lines: figures by element and lead, refusals, in the order of the records
+  fractions  each printed discharge and variance is within its margin of the run in fractions ("The run in fractions")
+  limit      where no reading has come in at or above an element, its discharge margin is at most 16 x n x c,
+             n being step count plus lead and c the count of elements at or above
+
+form, fractions and limit look at the program's own lines and at the input, never at the whole-number calculator.
+"""
+import re
+
+from calculator.fractions_run import EnclosedNumbers, ExactNumbers, FractionsRun
+from calculator.program import cut_records, cut_table
+
+FIGURE_LINE = re.compile(rb"(0|[1-9][0-9]*)(?: (?:0|[1-9][0-9]*)){6}")
+REFUSAL_LINE = re.compile(rb"(0|[1-9][0-9]*) refused (1[0-6]|[1-9])")
+EXACT_WORK = 40  # elements x (steps + leads) up to which the run is in fractions; above, it is enclosed between bounds
+
+
+judged = {"in fractions": 0, "between bounds": 0}  # discharges and variances compared so far
+
+
+class Malformed(Exception):
+    pass
+
+
+def output_lines(output):
+    if not output:
+        return []
+    if not output.endswith(b"\n"):
+        raise Malformed("the last line does not end")
+    return output[:-1].split(b"\n")
+
+
+def answers(data, output):
+    """By record: ("figures", record, rows) or ("refused", record, number, whether the step was kept). Read off the program's own lines."""
+    lines = output_lines(output)
+    table = cut_table(data)
+    if table is None or len(table) < 10:
+        if lines != [b"0 refused 1"]:
+            raise Malformed("a cut table and another answer than refusal 1")
+        return
+    if lines and re.fullmatch(rb"0 refused [1-7]", lines[0]):
+        if len(lines) > 1:
+            raise Malformed("lines after a refused table")
+        return
+    count, leads = table[8], table[7]
+    at = steps = 0
+    for record in cut_records(data, len(table)):
+        if at == len(lines):
+            raise Malformed(f"no answer to the record after {steps} accepted steps")
+        refusal = REFUSAL_LINE.fullmatch(lines[at])
+        if refusal:
+            kept, number = int(refusal[1]) - steps, int(refusal[2])
+            if kept not in (0, 1) or (kept == 1 and number not in (15, 16)):
+                raise Malformed(f"step count {int(refusal[1])} in a refusal after {steps} accepted steps")
+            at, steps = at + 1, steps + kept
+            yield "refused", record, number, kept == 1
+            if number <= 10:
+                break
+            continue
+        steps += 1
+        size = count * (leads + 1)
+        rows = lines[at:at + size]
+        at += size
+        if len(rows) < size or not all(FIGURE_LINE.fullmatch(row) for row in rows):
+            raise Malformed(f"figure lines of step {steps}")
+        rows = [tuple(map(int, row.split())) for row in rows]
+        if [row[:3] for row in rows] != [(steps, number, lead) for number in range(1, count + 1) for lead in range(leads + 1)]:
+            raise Malformed(f"step, element or lead in the lines of step {steps}")
+        yield "figures", record, rows
+    if at != len(lines):
+        raise Malformed("more lines than answers")
+
+
+def close(numbers, figure, exact, margin):
+    try:
+        return numbers.within(figure, exact, margin)
+    except ArithmeticError:
+        return None
+
+
+def check_figures(data, output, numbers):
+    """The checks fractions and limit over a whole output: a dict of check to its first complaint."""
+    table = cut_table(data)
+    found, run, above = {}, None, None
+    for answer in answers(data, output):
+        if run is None:
+            run = FractionsRun(table, numbers)
+            above = run.places_above()
+        if answer[0] == "refused":
+            if answer[3]:
+                run.step(answer[1])
+            continue
+        run.step(answer[1])
+        exact = run.forecast()
+        read_above = [bool(places & run.read) for places in above]
+        judged["in fractions" if isinstance(numbers, ExactNumbers) else "between bounds"] += 2 * len(answer[2])
+        for row in answer[2]:
+            steps, number, lead, discharge, margin, variance, variance_margin = row
+            exact_discharge, exact_variance = exact[lead][number - 1]
+            for name, figure, true, its_margin in (("discharge", discharge, exact_discharge, margin),
+                                                   ("variance", variance, exact_variance, variance_margin)):
+                verdict = close(numbers, figure, true, its_margin)
+                if verdict is None:
+                    raise ArithmeticError(f"bounds too wide at {row}")
+                if not verdict:
+                    found.setdefault("fractions", f"{name} outside its margin: {' '.join(map(str, row))}")
+            if not read_above[number - 1] and margin > 16 * (steps + lead) * len(above[number - 1]):
+                found.setdefault("limit", f"margin above 16 x n x c: {' '.join(map(str, row))}")
+    return found
+
+
+def judge(data, output, expected, fractions=True):
+    """A dict of check to complaint; empty where the output is right."""
+    found = {}
+    if output != expected:
+        at = next((i for i, (x, y) in enumerate(zip(output, expected)) if x != y), min(len(output), len(expected)))
+        line = output.count(b"\n", 0, at) + 1
+        found["bytes"] = f"differs at byte {at}, line {line}"
+    try:
+        if fractions:
+            try:
+                found |= check_figures(data, output, chosen_numbers(data))
+            except ArithmeticError:
+                found |= check_figures(data, output, ExactNumbers())
+        else:
+            for _ in answers(data, output):
+                pass
+    except Malformed as malformed:
+        found["form"] = str(malformed)
+    except Exception as error:  # a wrong program may accept a record that the run in fractions cannot read
+        found["form"] = f"{type(error).__name__}: {error}"
+    return found
+
+
+def chosen_numbers(data):
+    table = cut_table(data)
+    if table is None or len(table) < 10:
+        return ExactNumbers()
+    steps = sum(1 for _ in zip(range(EXACT_WORK), cut_records(data, len(table))))
+    return ExactNumbers() if table[8] * (steps + table[7]) <= EXACT_WORK else EnclosedNumbers()

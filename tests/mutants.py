@@ -1,0 +1,418 @@
+#!/usr/bin/env python3
+"""Shows that the judge can fail: deliberately wrong programs in the place of the program under test, each of which must be caught.
+
+    python3 tests/mutants.py
+
+For each mutant the checks of judge.py that caught it are printed with the count of inputs; the last line is
+"mutants: N tried, F not caught". Each is tried on some dozens of generated.py's quick inputs; on the slow ones (10,000 steps, 100,000
+records) only where these do not catch it, and on the other small ones last.
+"""
+import sys
+
+from calculator import whole_numbers
+from calculator.program import Program, run
+from calculator.whole_numbers import CEILING, GAP, HIGHEST_STAGE, SCALE, Figures, Refused, Rules, State, number_at
+from inputs import SHAPES, inputs, random_for
+from judge import judge
+
+SEED = 1
+ENOUGH = 25  # inputs that catch a mutant; no more are tried then (of the slow ones, after one)
+
+
+# ---- Wrong figures ---------------------------------------------------------------------------------------------------------------------
+
+
+def answer_rows(answer, written):
+    return [list(answer[at:at + 4]) for at in range(0, written, 4)]
+
+
+class WrongAnswer(Rules):
+    """A right forecast whose rows (discharge, margin, variance, variance margin) are then spoiled."""
+
+    def spoil(self, rows, leads):
+        raise NotImplementedError
+
+    def forecast(self, table_bytes, state, lent):
+        written, answer = super().forecast(table_bytes, state, lent)
+        rows = self.spoil(answer_rows(answer, written), whole_numbers.decode_table(table_bytes).leads)
+        return written, [number for row in rows for number in row] + list(lent[written:])
+
+
+class MarginsAtCeiling(WrongAnswer):
+    def spoil(self, rows, leads):
+        return [[discharge, CEILING, variance, CEILING] for discharge, _, variance, _ in rows]
+
+
+class MarginsZero(WrongAnswer):
+    def spoil(self, rows, leads):
+        return [[discharge, 0, variance, 0] for discharge, _, variance, _ in rows]
+
+
+class MarginsSlightlyTooSmall(WrongAnswer):
+    def spoil(self, rows, leads):
+        return [[discharge, max(0, margin - 3), variance, max(0, variance_margin - 5)]
+                for discharge, margin, variance, variance_margin in rows]
+
+
+class LeadZeroEverywhere(WrongAnswer):
+    def spoil(self, rows, leads):
+        return [rows[at - at % (leads + 1)] for at in range(len(rows))]
+
+
+class OneConstantLine(WrongAnswer):
+    def spoil(self, rows, leads):
+        return [[1_000_000, 3, 0, 6]] * len(rows)
+
+
+class MarginAndVarianceSwapped(WrongAnswer):
+    def spoil(self, rows, leads):
+        return [[discharge, variance, margin, variance_margin] for discharge, margin, variance, variance_margin in rows]
+
+
+class ReadingsIgnored(Rules):
+    def correct(self, figures, z, noise):
+        return figures
+
+
+class ReadingsIgnoredByZeroGain(Rules):
+    def correct(self, figures, z, noise):
+        discharge, margin = self.blend(figures.discharge, figures.margin, z, 1, SCALE, 2)
+        return Figures(discharge, margin, figures.variance, figures.variance_margin + 2)
+
+
+class ReadingTakenWhole(Rules):
+    def correct(self, figures, z, noise):
+        right = super().correct(figures, z, noise)
+        return Figures(z, right.margin, right.variance, right.variance_margin)
+
+
+class CorrectionVarianceKept(Rules):
+    def correct(self, figures, z, noise):
+        right = super().correct(figures, z, noise)
+        return Figures(right.discharge, right.margin, figures.variance, figures.variance_margin)
+
+
+class GainMarginTwo(Rules):
+    """Gain margin 2 whatever the variance margin: too small a margin after a reading."""
+
+    def correct(self, figures, z, noise):
+        right = super().correct(figures, z, noise)
+        gain = SCALE * figures.variance // (figures.variance + noise)
+        _, margin = self.blend(figures.discharge, figures.margin, z, 1, SCALE - gain, 2)
+        return Figures(right.discharge, margin, right.variance, right.variance_margin)
+
+
+class RainSumByThree(Rules):
+    def lead_rain_inflow(self, element, rains, steps, lead):
+        return super().lead_rain_inflow(element, rains, 3, lead)
+
+
+class LastRainOnly(Rules):
+    def lead_rain_inflow(self, element, rains, steps, lead):
+        return super().lead_rain_inflow(element, rains, min(1, steps), lead)
+
+
+class LeadNoiseOnce(Rules):
+    """Lead variance G in place of lead x G."""
+
+    def lead_rain_inflow(self, element, rains, steps, lead):
+        return super().lead_rain_inflow(element, rains, steps, 1)
+
+
+class GapAsStage65535(Rules):
+    """A gap read by the last piece of the curve."""
+    gap_stage = 65_535
+
+    def readings(self, table, record):
+        rains, readings = super().readings(table, record)
+        _, stages = whole_numbers.record_fields(table, record)
+        for gauge, stage in zip(table.gauges, stages):
+            if stage == GAP:
+                pieces = gauge.pieces[:gauge.used]
+                piece = next((piece for piece in pieces if self.gap_stage < piece.top), pieces[-1])
+                readings[gauge.element] = min(CEILING, piece.a * (self.gap_stage + piece.b) ** 2 // 1_000), gauge.noise
+        return rains, readings
+
+
+class GapAsStageZero(GapAsStage65535):
+    gap_stage = 0
+
+
+class UncorrectedInflow(Rules):
+    """All gauges corrected after the whole network has moved."""
+
+    def below_inflow(self, figures, uncorrected):
+        return uncorrected
+
+
+class VarianceWeightNotSquared(Rules):
+    def move(self, element, weight, old, inflow):
+        right = super().move(element, weight, old, inflow)
+        variance, _ = self.blend(old.variance, old.variance_margin, inflow.variance, inflow.variance_margin, weight, 3)
+        return Figures(right.discharge, right.margin, min(CEILING, variance + element.system_noise), right.variance_margin)
+
+
+class SystemNoiseLeftOut(Rules):
+    def move(self, element, weight, old, inflow):
+        right = super().move(element, weight, old, inflow)
+        return Figures(right.discharge, right.margin, right.variance - element.system_noise, right.variance_margin)
+
+
+class WeightsExchanged(Rules):
+    def move(self, element, weight, old, inflow):
+        return super().move(element, SCALE - weight, old, inflow)
+
+
+class ShortSeries(Rules):
+    """The series weight without its last two terms."""
+
+    def weight(self, step_minutes, lag):
+        h = SCALE
+        for m in range(10, 0, -1):
+            h = SCALE - step_minutes * h // (lag * m)
+        return h
+
+
+class AllWaterAtFirstStep(Rules):
+    """The first step moves everything to its inflow, later steps leave all as it is."""
+
+    def step(self, table_bytes, record, state):
+        moved = super().step(table_bytes, record, state)
+        return moved if state.steps == 0 else State(state.count, moved.steps, state.figures, moved.rains)
+
+
+class StateNeverMoved(Rules):
+    def step(self, table_bytes, record, state):
+        moved = super().step(table_bytes, record, state)
+        return State(state.count, moved.steps, state.figures, state.rains)
+
+
+class RainsInWrongOrder(Rules):
+    """The oldest rain is kept for ever."""
+
+    def step(self, table_bytes, record, state):
+        moved = super().step(table_bytes, record, state)
+        moved.rains = [(new[0], old[0] if state.steps < 2 else old[1], old[1] if state.steps < 3 else old[2])
+                       for new, old in zip(moved.rains, state.rains)]
+        return moved
+
+
+class NextPieceAtTop(Rules):
+    """Stage at or below the top, in place of below it."""
+
+    def readings(self, table, record):
+        rains, readings = super().readings(table, record)
+        _, stages = whole_numbers.record_fields(table, record)
+        for gauge, stage in zip(table.gauges, stages):
+            if stage != GAP:
+                piece = next(piece for piece in gauge.pieces if stage <= piece.top)
+                if 0 <= stage + piece.b and piece.a * (stage + piece.b) ** 2 // 1_000 <= CEILING:
+                    readings[gauge.element] = piece.a * (stage + piece.b) ** 2 // 1_000, gauge.noise
+        return rains, readings
+
+
+class LastReadingForAll(Rules):
+    """Every gauge gets the last gauge's reading."""
+
+    def readings(self, table, record):
+        rains, readings = super().readings(table, record)
+        last = max(readings, default=None)
+        return rains, {element: readings[last] for element in readings}
+
+
+# ---- Wrong refusals --------------------------------------------------------------------------------------------------------------------
+
+
+class TwelveForThirteen(Rules):
+    def readings(self, table, record):
+        try:
+            return super().readings(table, record)
+        except Refused as refused:
+            raise Refused(12 if refused.number == 13 else refused.number)
+
+
+class SixteenForEverything(Rules):
+    def step(self, table_bytes, record, state):
+        raise Refused(16)
+
+
+class HighestRecordRuleWins(Rules):
+    """13 before 12."""
+
+    def readings(self, table, record):
+        try:
+            return super().readings(table, record)
+        except Refused as refused:
+            if refused.number == 12:
+                _, stages = whole_numbers.record_fields(table, record)
+                if any(stage > HIGHEST_STAGE and stage != GAP for stage in stages):
+                    raise Refused(13)
+            raise
+
+
+class RainGap(Rules):
+    """Rain 65535 taken for a gap, as no rain."""
+
+    def readings(self, table, record):
+        if len(record) == 3 + 2 * table.basins + 2 * len(table.gauges):
+            patched = bytearray(record)
+            for at in range(3, 3 + 2 * table.basins, 2):
+                if number_at(record, at, 2) == GAP:
+                    patched[at:at + 2] = b"\0\0"
+            record = bytes(patched)
+        return super().readings(table, record)
+
+
+class NegativeDepthSquared(Rules):
+    """Rule 14 without h + b below 0."""
+
+    def curve(self, piece, stage):
+        return super().curve(whole_numbers.Piece(piece.top, piece.a, abs(stage + piece.b)), 0)
+
+
+class OnlyValuesUnderCeiling(Rules):
+    """Rule 16 without margins."""
+
+    def blend(self, x, x_margin, y, y_margin, weight, weight_margin):
+        value, margin = super().blend(x, 0, y, 0, weight, 0)
+        gap = max(x, y) - min(x, y)
+        margin = ((weight * x_margin + (SCALE - weight) * y_margin) // SCALE + weight_margin * (gap + x_margin + y_margin) // SCALE + 3)
+        return value, min(CEILING, margin)
+
+
+class CeilingTakesOneMore(Rules):
+    """Rain inflow of C itself refused."""
+
+    def step_rain_inflow(self, element, rain):
+        inflow = super().step_rain_inflow(element, rain)
+        return Figures(inflow.discharge + (inflow.discharge == CEILING), *inflow.numbers()[1:])
+
+
+class ElevenThousandSteps(Rules):
+    most_steps = 11_000
+
+
+class NineThousandSteps(Rules):
+    most_steps = 9_999
+
+
+class SixForSeven(Rules):
+    def start(self, table_bytes, state):
+        try:
+            return super().start(table_bytes, state)
+        except Refused as refused:
+            raise Refused(6 if refused.number == 7 else refused.number)
+
+
+# ---- Wrong programs --------------------------------------------------------------------------------------------------------------------
+
+
+class OneLineTooFew(Program):
+    def run(self, data):
+        return b"".join(super().run(data).splitlines(keepends=True)[:-1])
+
+
+class LinesByLead(Program):
+    """By lead and then element."""
+
+    def figure_lines(self, steps, count, leads, answer):
+        lines = super().figure_lines(steps, count, leads, answer).splitlines(keepends=True)
+        return b"".join(lines[number * (leads + 1) + lead] for lead in range(leads + 1) for number in range(count))
+
+
+class TwoSpaces(Program):
+    def figure_lines(self, steps, count, leads, answer):
+        return super().figure_lines(steps, count, leads, answer).replace(b" ", b"  ")
+
+
+class ElevenEndsRun(Program):
+    last_ending_refusal = 16
+
+
+class TenGoesOn(Program):
+    last_ending_refusal = 9
+
+
+class ForecastRefusalDropsStep(Program):
+    keeps_step_without_forecast = False
+
+
+class OneRecordTooMany(Program):
+    most_records = 100_001
+
+
+class OneRecordTooFew(Program):
+    most_records = 99_999
+
+
+class LongTableRead(Program):
+    """A table above 2,410 bytes judged like any other."""
+    longest_table = 1 << 20
+
+
+class CutRecordDropped(Program):
+    """A cut record ends the run with nothing printed."""
+
+    def run(self, data):
+        lines = super().run(data).splitlines(keepends=True)
+        return b"".join(lines[:-1] if lines and lines[-1].endswith(b"refused 10\n") else lines)
+
+
+class EmptyInputSilent(Program):
+    def run(self, data):
+        return super().run(data) if data else b""
+
+
+def mutants():
+    for wrong in list(globals().values()):
+        if isinstance(wrong, type) and issubclass(wrong, (Rules, Program)) and wrong not in (Rules, Program, WrongAnswer):
+            yield wrong.__name__, (wrong().run if issubclass(wrong, Program) else Program(wrong()).run)
+
+
+def chosen_inputs():
+    """Three groups: some dozens of all families, the slow ones, the other quick ones that are small."""
+    dozens, others, slow, seen = [], [], [], {}
+    for number, given in enumerate(inputs()):
+        family = given.family.split(" cut at")[0].split(" spoiled at")[0]
+        seen[family] = seen.get(family, 0) + 1
+        if not given.fractions:
+            slow.append((number, given))
+        elif family.startswith(("river of 64", "longest", "long river", "Yubetsu")):
+            continue
+        elif seen[family] <= 3 and family.split()[0] not in SHAPES:
+            dozens.append((number, given))
+        else:
+            others.append((number, given))
+    return dozens, slow, others
+
+
+def main():
+    groups, expected = chosen_inputs(), {}
+    tried = missed = 0
+    for name, wrong in mutants():
+        caught, used = {}, 0
+        for group in groups:
+            for number, given in group:
+                if caught.get("bytes", 0) >= (ENOUGH if given.fractions else 1):
+                    break
+                if number not in expected:
+                    data = given.build(random_for(SEED, number))
+                    expected[number] = data, run(data)
+                data, right = expected[number]
+                output = wrong(data)
+                used += 1
+                if output != right:
+                    for check in judge(data, output, right, given.fractions):
+                        caught[check] = caught.get(check, 0) + 1
+            if caught:
+                break
+        tried += 1
+        missed += not caught
+        words = ", ".join(f"{check} {count}" for check, count in sorted(caught.items())) if caught else "NOT CAUGHT"
+        print(f"{name}: {words} (of {used} inputs)")
+    print(f"mutants: {tried} tried, {missed} not caught")
+    return 1 if missed else 0
+
+
+if __name__ == "__main__":
+    sys.exit(main())
