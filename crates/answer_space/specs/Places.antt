@@ -1,9 +1,8 @@
 -- The places of an answer in the code: four numbers each, by element and then lead.
-use Prim.Native.Nat.{ℕ, _+_, _*_, _<_}
+use Prim.Native.Nat.{ℕ, _+_, _*_, _≤_, _<_}
 use mathlib.Core.List.{List}
-use mathlib.Core.Logic.{_≢_}
 use mathlib.Core.Path.{_≡_}
-use lib.ListN.{length, getD, set}
+use lib.ListN.{getD, set}
 use Rattle.units.specs.Units.{grains, thousandths}
 use Rattle.method.specs.declared.Figures.{Figures}
 
@@ -22,12 +21,12 @@ put answer p f =
     set (set (set (set answer (4 * p) (f .discharge .0)) (4 * p + 1) (f .«discharge_margin» .0)) (4 * p + 2) (f .variance .0))
     (4 * p + 3) (f .«variance_margin» .0)
 
--- the figures of the first n elements put at their places for a lead, at w leads an element; the other leads stay
-pub record LeadPut (before after : List ℕ) (figures : ℕ → Figures) (n w lead : ℕ) : Type 0 where
-  pub room : length after ≡ length before
-  pub here : (i : ℕ) → i < n → figuresAt after (i * w + lead) ≡ figures i
-  pub others :
-      (i other : ℕ) → other < w → other ≢ lead → figuresAt after (i * w + other) ≡ figuresAt before (i * w + other)
+-- the numbers of sums are at most b
+pub record FiguresBelow (f : Figures) (b : ℕ) : Type 0 where
+  pub discharge : f .discharge .0 ≤ b
+  pub dischargeMargin : f .«discharge_margin» .0 ≤ b
+  pub variance : f .variance .0 ≤ b
+  pub varianceMargin : f .«variance_margin» .0 ≤ b
 
 -- all leads below m are at their places
 pub record LeadsHeld (answer : List ℕ) (figures : ℕ → ℕ → Figures) (n w m : ℕ) : Type 0 where

@@ -1,37 +1,71 @@
-// The places of a forecast's answer: by element and then lead.
+// Four numbers at each place of an answer or of sums, and an answer's numbers copied.
 ghost use mathlib.Core.Path.{_≡_};
-ghost use Prim.Native.Nat.{_≤_, _<_};
+ghost use Prim.Native.Nat.{_+_, _*_, _≤_, _<_};
 ghost use lib.ListN.{length};
 ghost use lib.Seq.{paste};
-ghost use Rattle.network.specs.Step.{figuresIn};
-ghost use Rattle.answer_space.specs.Places.{put, LeadPut};
+ghost use Rattle.method.specs.Figures.{FiguresFit};
+ghost use Rattle.method.specs.Inflow.{joinedInflow};
+ghost use Rattle.answer_space.specs.Places.{figuresAt, put, FiguresBelow};
 use method::Figures;
-use state::State;
+use units::Discharge;
+use units::Variance;
 
-// The figures of one element, four numbers at a place of the answer.
-fn put_figures(answer: &mut [u64], place: usize, f: Figures)
-    requires { ⌜ (place < 832) × (length (now answer) ≡ 3328) ⌝ }
-    ensures { λ _. ⌜ now (answer .exit) ≡ put (now (answer .entry)) place f ⌝ }
+// The four numbers at a place.
+pub fn figures_at(numbers: &[u64], place: usize) -> Figures
+    requires { ⌜ 4 * place + 3 < length (now numbers) ⌝ }
+    ensures { λ r. ⌜ r ≡ figuresAt (now (numbers .entry)) place ⌝ }
+{
+    Figures {
+        discharge: Discharge(numbers[4 * place]),
+        discharge_margin: Discharge(numbers[4 * place + 1]),
+        variance: Variance(numbers[4 * place + 2]),
+        variance_margin: Variance(numbers[4 * place + 3]),
+    }
+}
+
+// The figures of one element, four numbers at a place.
+pub fn put_figures(numbers: &mut [u64], place: usize, f: Figures)
+    requires { ⌜ 4 * place + 3 < length (now numbers) ⌝ }
+    ensures { λ _. ⌜ now (numbers .exit) ≡ put (now (numbers .entry)) place f ⌝ }
 {
     let q = f.discharge;
     let e = f.discharge_margin;
     let v = f.variance;
     let d = f.variance_margin;
-    answer[4 * place] = q.0;
-    answer[4 * place + 1] = e.0;
-    answer[4 * place + 2] = v.0;
-    answer[4 * place + 3] = d.0;
+    numbers[4 * place] = q.0;
+    numbers[4 * place + 1] = e.0;
+    numbers[4 * place + 2] = v.0;
+    numbers[4 * place + 3] = d.0;
 }
 
-// The figures of all elements, at their places for a lead.
-pub fn put_lead(answer: &mut [u64], elements: usize, leads: usize, lead: usize, state: State)
-    requires { ⌜ (elements ≤ 64) × ((lead < leads) × ((leads ≤ 13) × (length (now answer) ≡ 3328))) ⌝ }
-    ensures { λ _. ⌜ LeadPut (now (answer .entry)) (now (answer .exit)) (figuresIn state) elements leads lead ⌝ }
+// Sums with one element's figures more.
+fn joined(x: Figures, y: Figures) -> Figures
+    requires { ⌜ FiguresBelow x 256000000000 × FiguresFit y ⌝ }
+    ensures { λ r. ⌜ r ≡ joinedInflow x y ⌝ }
 {
-    for i in 0..elements {
-        let place = state.element[i];
-        put_figures(&mut *answer, i * leads + lead, place.figures);
+    let xq = x.discharge;
+    let xe = x.discharge_margin;
+    let xv = x.variance;
+    let xd = x.variance_margin;
+    let yq = y.discharge;
+    let ye = y.discharge_margin;
+    let yv = y.variance;
+    let yd = y.variance_margin;
+    Figures {
+        discharge: Discharge(xq.0 + yq.0),
+        discharge_margin: Discharge(xe.0 + ye.0),
+        variance: Variance(xv.0 + yv.0),
+        variance_margin: Variance(xd.0 + yd.0),
     }
+}
+
+// The figures of one element added to the sums at a place.
+pub fn add_figures(numbers: &mut [u64], place: usize, f: Figures)
+    requires { ⌜ (4 * place + 3 < length (now numbers)) × (FiguresBelow (figuresAt (now numbers) place) 256000000000 × FiguresFit f) ⌝ }
+    ensures { λ _. ⌜ now (numbers .exit) ≡ put (now (numbers .entry)) place (joinedInflow (figuresAt (now (numbers .entry)) place) f) ⌝ }
+{
+    let sums = figures_at(&*numbers, place);
+    put_figures(numbers, place, joined(sums, f));
 }
 
 // The answer's numbers, copied into the lent space.

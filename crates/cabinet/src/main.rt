@@ -4,6 +4,7 @@ ghost use Prim.Native.Nat.{_≤_};
 ghost use lib.ListN.{length};
 ghost use Rattle.plan.specs.Plans.{PlanFits};
 ghost use Rattle.session.specs.Windows.{SessionFits};
+use fields::bytes::read32;
 use lines::put_refusal;
 use opening::Opening;
 use opening::open;
@@ -38,6 +39,23 @@ fn refuse(refusal: Refusal) {
     write_out(&out, end);
 }
 
+// Reads the table by its length field, or its four bytes alone where the table is too long; how many bytes there are.
+fn read_table(input: &mut [u8]) -> usize
+    requires { ⌜ length (now input) ≡ 131072 ⌝ }
+    ensures { λ r. ⌜ r ≤ 2410 ⌝ }
+{
+    let first = io::read_full(0, &mut input[0..4]);
+    let counted = read32(&*input, 0);
+    if first < 4 {
+        return first;
+    }
+    if counted > 2_406 {
+        return 4;
+    }
+    let size = counted as usize + 4;
+    4 + io::read_full(0, &mut input[4..size])
+}
+
 // What the program holds after an accepted table.
 fn first_session(opening: Opening, have: usize) -> Session
     requires { ⌜ (opening .length ≤ have) × (have ≤ 131072) ⌝ }
@@ -49,7 +67,7 @@ fn first_session(opening: Opening, have: usize) -> Session
         window: Window {
             from: opening.length,
             have,
-            more: have == 131_072,
+            more: true,
         },
         at: 0,
         ended: false,
@@ -81,7 +99,7 @@ fn main() {
     let mut input = input_buffer();
     let mut numbers = number_buffer();
     let mut out = text_buffer();
-    let have = io::read_full(0, &mut input);
+    let have = read_table(&mut input);
     let opening = open(&input[..have]);
     let verdict = opening.verdict;
     match verdict {

@@ -1,19 +1,18 @@
 -- The answer of a forecast: the leads that were worked out, and rule 15 and 16.
 use Prim.{Unit}
 use Prim.Native.Nat.{ℕ, _+_, _*_, _≤_, _<_}
-use mathlib.Core.Bool.{true, false}
-use mathlib.Core.List.{List, [], _++_}
+use mathlib.Core.Bool.{true}
+use mathlib.Core.List.{List, _++_}
 use mathlib.Core.Path.{_≡_, refl, sym, ap, subst, _∙_}
 use borrow.Author.Tests.{le-leb, lt-leb}
 use native.Mathlib.Nat.{mul-le-mul}
 use native.Mathlib.Omega.{arith}
-use lib.Dec.{leb}
-use lib.ListN.{length, take, drop}
+use lib.ListN.{length, getD, take, drop}
 use lib.Seq.{paste, length-take-le}
-use Rattle.refusal.specs.Answers.{Answer, accepted, refused, rule}
+use Rattle.refusal.specs.Answers.{accepted, refused}
 use Rattle.refusal.specs.Refusals.{number}
 use Rattle.refusal.specs.declared.Refusal.{Refusal}
-use Rattle.refusal.specs.declared.Refusal.the-variants.{AnswerSpace}
+use Rattle.refusal.specs.declared.Refusal.the-variants.{AnswerSpace, AboveCeiling}
 use Rattle.refusal.proofs.RuleLaws.{not-both}
 use Rattle.units.specs.Ceiling.{underCeiling}
 use Rattle.units.proofs.CeilingLaws.{same-accepted, same-refused-number}
@@ -25,71 +24,113 @@ use Rattle.table.specs.Verdicts.{verdictAnswer}
 use Rattle.table.specs.Tables.{TableValues}
 use Rattle.table.specs.Bounds.{TableBounds}
 use Rattle.table.specs.InUse.{valuesOf}
+use Rattle.table.proofs.HeldLaws.{element-held}
+use Rattle.elements.specs.declared.Element.{Element}
+use Rattle.elements.specs.Elements.{noElement}
+use Rattle.plan.specs.Plans.{WeightsHeld}
 use Rattle.state.specs.declared.State.{State}
+use Rattle.state.specs.States.{noPlace, placeOf}
 use Rattle.state.specs.Rules.{stateFits}
-use Rattle.network.specs.Step.{figuresIn}
 use Rattle.network.proofs.StateFitsLaws.{places-under, rains-under}
-use Rattle.network.specs.Forecast.{leadFigures, leadNumbers}
+use Rattle.network.specs.Step.{figuresIn}
+use Rattle.network.specs.Forecast.{rainCount, rainSum, leadFigures, leadNumbers}
 use Rattle.leads.specs.declared.ForecastAnswer.the-variants as of-forecast
-use Rattle.leads.specs.Answer.{byElementAndLead, forecastFigures, spaceFits, leadsAnswer}
+use Rattle.leads.specs.Answer.{forecastFigures, spaceFits, leadsAnswer}
 use Rattle.leads.specs.Lent.{layout, countWritten, lentAfter, Lent}
-use Rattle.rain_sums.specs.Sums.{StateUnder}
-use Rattle.answer_space.specs.Places.{LeadPut, LeadsHeld}
+use Rattle.rain_sums.specs.Sums.{StateUnder, sumOf}
+use Rattle.rain_sums.proofs.RainLaws.{sum-is}
+use Rattle.answer_space.specs.Places.{LeadsHeld}
 use Rattle.leads.specs.Held.{LeadsWorked}
-use Rattle.answer_space.proofs.PlacesLaws.{put-as, held-begin, held-again}
+use Rattle.lead_walk.specs.declared.Course.{Course}
+use Rattle.lead_walk.specs.Course.{courseAll}
+use Rattle.lead_walk.specs.Worked.{drainedAt}
+use Rattle.lead_walk.proofs.UnderLaws.{Under, under-accepted, refused-whole}
 use Rattle.leads.proofs.LayoutLaws.{answer-laid}
-use Rattle.leads.proofs.LeadsLaws.{Leading}
+use Rattle.leads.proofs.LeadsLaws.{lead-whole, Walked, CourseOf, course-under}
 
 -- what rule 8 gives
 pub state-under : (table : Table) (s : State) → stateFits (valuesOf table) s ≡ true → StateUnder table s
 unfolding valuesOf
 state-under table s h = record { figures = places-under _ _ h; rains = rains-under _ _ h }
 
+-- an accepted table has at most twelve leads
+pub few-leads : (table : Table) → TableBounds (valuesOf table) → table .leads ≤ 12
+unfolding valuesOf
+few-leads table b = b .leadsMost
+
+-- the smaller of 3 and the step count
+pub small-count : (count steps : ℕ) → count ≡ rainCount steps → count ≤ 3
+unfolding rainCount
+small-count count steps e = omega (arith, e)
+
+-- ---- one element
+
+-- what the code takes of element i
+pub course-of :
+    (table : Table) (weights : List ℕ) (s : State) (i rain count : ℕ)
+    → i < table .elements
+    → WeightsHeld weights table (table .elements)
+    → count ≡ rainCount (s .steps)
+    → rain ≡ sumOf (getD (table .element) i noElement .kind) (getD (s .element) i noPlace .rains) count
+    → CourseOf (valuesOf table) s (record { element = getD (table .element) i noElement; weight = getD weights i 0; rain = rain; count = count }) i
+unfolding placeOf
+course-of table weights s i rain count l w c r =
+    record {
+      element = sym (element-held table i l);
+      weight = w .at i l;
+      rain = λ k.
+          sum-is _ (getD (s .element) i noPlace .rains) count rain r (ap (λ (e : Element). e .kind) (sym (element-held table i l)) ∙ k)
+          ∙ ap (rainSum (getD (s .element) i noPlace .rains)) c;
+      count = c;
+    }
+
+pub first-held : (s : State) (i : ℕ) → getD (s .element) i noPlace .figures ≡ figuresIn s i
+unfolding figuresIn placeOf
+first-held s i = refl
+
+-- where no number of the forecast passes, none of element i does
+pub element-under :
+    (table : Table) (s : State) (c : Course) (i : ℕ)
+    → CourseOf (valuesOf table) s c i
+    → (first : Figures)
+    → first ≡ figuresIn s i
+    → (answer sums : List ℕ)
+    → Walked (valuesOf table) s (table .leads + 1) (table .leads) i answer sums
+    → i < table .elements
+    → Under (leadNumbers (valuesOf table) s (table .leads))
+    → Under (courseAll c first (drainedAt sums (table .leads + 1) i) (table .leads))
+unfolding valuesOf
+element-under table s c i of first is answer sums h l u = course-under (valuesOf table) s c i of first is (table .leads + 1) (table .leads) answer sums h l u
+
 -- ---- the leads that the answer holds
 
 module _ (table : Table) (s : State) where
-  pub held-first :
-      (before answer : List ℕ) (w : ℕ)
-      → LeadPut before answer (figuresIn s) (table .elements) w 0
-      → LeadsHeld answer (leadFigures (valuesOf table) s) (table .elements) w 1
-  unfolding leadFigures
-  held-first before answer w h = held-begin _ _ w before answer h
-
-  pub held-next :
-      (before answer : List ℕ) (w k : ℕ) (current : State)
-      → Leading table s (k + 1) current
-      → k + 1 < w
-      → LeadsHeld before (leadFigures (valuesOf table) s) (table .elements) w (k + 1)
-      → LeadPut before answer (figuresIn current) (table .elements) w (k + 1)
-      → LeadsHeld answer (leadFigures (valuesOf table) s) (table .elements) w (k + 1 + 1)
-  held-next before answer w k current h short held p =
-      held-again _ _ w (k + 1) before answer short held (put-as before answer _ _ _ w (k + 1) (h .figures) p)
-
-  -- all leads are worked out
+  -- all elements are worked out
   pub worked-accepted :
-      (answer : List ℕ) (k : ℕ) (current : State)
-      → Leading table s k current
-      → k ≡ table .leads
-      → LeadsHeld answer (leadFigures (valuesOf table) s) (table .elements) (table .leads + 1) (k + 1)
+      (answer sums : List ℕ) (i : ℕ)
+      → Walked (valuesOf table) s (table .leads + 1) (table .leads) i answer sums
+      → i ≡ table .elements
       → LeadsWorked Accepted answer (valuesOf table) s
   unfolding valuesOf
-  worked-accepted answer k current h e held =
+  worked-accepted answer sums i h e =
+      let g = subst (λ (n : ℕ). Walked (valuesOf table) s (table .leads + 1) (table .leads) n answer sums) e h in
       record {
-        verdict = sym (subst (λ (m : ℕ). underCeiling {A = Unit} (leadNumbers (valuesOf table) s m) tt ≡ accepted tt) e (h .under));
-        held = λ v. subst (λ (m : ℕ). LeadsHeld answer (leadFigures (valuesOf table) s) (table .elements) (table .leads + 1) (m + 1)) e held;
+        verdict = under-accepted _ (lead-whole (valuesOf table) s (table .leads) (g .under));
+        held = λ v. g .held;
       }
 
   -- 16 at one of them
   pub worked-refused :
-      (answer : List ℕ) (v : Verdict) {j : Refusal}
+      (answer numbers : List ℕ) (v : Verdict) {j : Refusal}
+      → (Under (leadNumbers (valuesOf table) s (table .leads)) → Under numbers)
+      → verdictAnswer v ≡ underCeiling {A = Unit} numbers tt
       → v ≡ Refused j
-      → refused (number j) ≡ underCeiling {A = Unit} (leadNumbers (valuesOf table) s (table .leads)) tt
-      → LeadsWorked v answer (valuesOf table) s
+      → LeadsWorked (Refused AboveCeiling) answer (valuesOf table) s
   unfolding valuesOf
-  worked-refused answer v {j} e h =
+  worked-refused answer numbers v part h e =
       record {
-        verdict = ap verdictAnswer e ∙ h;
-        held = λ a. absurd (not-both (ap verdictAnswer a) (ap verdictAnswer e));
+        verdict = refused-whole numbers (leadNumbers (valuesOf table) s (table .leads)) part (sym (ap verdictAnswer e) ∙ h);
+        held = λ a. absurd (not-both (ap verdictAnswer a) refl);
       }
 
 -- ---- the answer

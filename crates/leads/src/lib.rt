@@ -1,22 +1,20 @@
 ghost use mathlib.Core.Path.{_≡_};
 ghost use mathlib.Core.Bool.{true};
-ghost use lib.ListN.{length};
+ghost use lib.ListN.{length, replicate};
 ghost use Rattle.table.specs.InUse.{valuesOf};
 ghost use Rattle.state.specs.Rules.{stateFits};
 ghost use Rattle.plan.specs.Plans.{PlanFits};
 ghost use Rattle.network.specs.Forecast.{rainCount};
-ghost use Rattle.rain_sums.specs.Sums.{StateUnder, HoldsSums};
+ghost use Rattle.rain_sums.specs.Sums.{StateUnder};
 ghost use Rattle.leads.specs.Answer.{leadsAnswer};
 ghost use Rattle.leads.specs.Lent.{Lent};
 ghost use Rattle.leads.specs.Held.{LeadsWorked};
 use answer_space::copy_numbers;
-use answer_space::put_lead;
-use element_step::Supply;
-use network::advance;
+use lead_walk::Course;
+use lead_walk::work_element;
 use plan::Plan;
 use rain_sums::rain_count;
-use rain_sums::sums_of;
-use record::Input;
+use rain_sums::sum_of;
 use refusal::Refusal;
 use state::State;
 use table::Verdict;
@@ -27,38 +25,35 @@ pub enum ForecastAnswer {
     Refused(Refusal),
 }
 
-// The leads, one after the other, each put into the answer: 16 where a number passes the ceiling.
-fn work_leads(
-    plan: Plan,
-    input: [Input; 64],
-    count: u64,
-    state: State,
-    answer: &mut [u64],
-) -> Verdict
-    requires { ⌜ PlanFits plan × ((count ≡ rainCount (state .steps)) × (HoldsSums input (valuesOf (plan .table)) state count (plan .table .elements) × (StateUnder (plan .table) state × (length (now answer) ≡ 3328)))) ⌝ }
+// All elements, each through all leads, put into the answer: 16 where a number passes the ceiling.
+fn work_leads(plan: Plan, count: u64, state: State, answer: &mut [u64], sums: &mut [u64]) -> Verdict
+    requires { ⌜ PlanFits plan × ((count ≡ rainCount (state .steps)) × (StateUnder (plan .table) state × ((length (now answer) ≡ 3328) × (now sums ≡ replicate 3380 0)))) ⌝ }
     ensures { λ r. ⌜ LeadsWorked r (now (answer .exit)) (valuesOf (plan .table)) state ⌝ }
 {
     let table = plan.table;
+    let weight = plan.weight;
     let n = table.elements;
     let leads = table.leads;
-    put_lead(&mut *answer, n, leads + 1, 0, state);
-    let mut current = state;
-    for lead in 0..leads {
-        let supply = Supply {
+    for i in 0..n {
+        let element = table.element[i];
+        let place = state.element[i];
+        let rain = sum_of(element.kind, place.rains, count);
+        let course = Course {
+            element,
+            weight: weight[i],
+            rain,
             count,
-            lead: lead as u64 + 1,
         };
-        let next = advance(plan, supply, input, current);
-        let verdict = next.verdict;
-        match verdict {
-            Verdict::Accepted => {
-                current = next.state;
-            }
-            Verdict::Refused(_) => {
-                return verdict;
-            }
-        }
-        put_lead(&mut *answer, n, leads + 1, lead + 1, current);
+        let Verdict::Accepted = work_element(
+            course,
+            place.figures,
+            i,
+            leads,
+            &mut *answer,
+            &mut *sums,
+        ) else {
+            return Verdict::Refused(Refusal::AboveCeiling);
+        };
     }
     Verdict::Accepted
 }
@@ -74,9 +69,9 @@ pub fn forecast_on(plan: Plan, state: State, out: &mut [u64]) -> ForecastAnswer
         return ForecastAnswer::Refused(Refusal::AnswerSpace);
     }
     let count = rain_count(state.steps);
-    let input = sums_of(table, state, count);
     let mut answer = [0u64; 3328];
-    let verdict = work_leads(plan, input, count, state, &mut answer);
+    let mut sums = [0u64; 3380];
+    let verdict = work_leads(plan, count, state, &mut answer, &mut sums);
     match verdict {
         Verdict::Accepted => {
             copy_numbers(&answer, needed, out);

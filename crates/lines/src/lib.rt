@@ -1,11 +1,24 @@
-ghost use mathlib.Core.List.{[], _∷_};
+ghost use mathlib.Core.List.{[], _∷_, _++_};
 ghost use Prim.Native.Nat.{_+_, _*_, _≤_, _<_};
 ghost use lib.ListN.{length};
+ghost use Rattle.text.specs.Decimal.{decimal};
 ghost use Rattle.text.specs.Lines.{line};
 ghost use Rattle.text.specs.Places.{Put};
 ghost use Rattle.lines.specs.Printed.{refusalLine, lineFrom, elementLines, answerLines};
 use text::put_bytes;
+use text::put_digit;
 use text::put_number;
+
+// The digits of x and then one byte, put at a place; the place after them. Most numbers of a line have one digit.
+fn put_short_or_long(out: &mut [u8], at: usize, x: u64, after: u8) -> usize
+    requires { ⌜ at + 21 ≤ length (now out) ⌝ }
+    ensures { λ r. ⌜ Put (now (out .entry)) at (decimal x ++ after ∷ []) (now (out .exit)) r × (r ≤ at + 21) ⌝ }
+{
+    if x < 10 {
+        return put_digit(out, at, x, after);
+    }
+    put_number(out, at, x, after)
+}
 
 // The line of an element at a lead, put at a place; the place after it.
 fn put_line(
@@ -22,13 +35,13 @@ fn put_line(
     requires { ⌜ at + 147 ≤ length (now out) ⌝ }
     ensures { λ r. ⌜ Put (now (out .entry)) at (line (steps ∷ element ∷ lead ∷ q ∷ e ∷ v ∷ d ∷ [])) (now (out .exit)) r × (r ≤ at + 147) ⌝ }
 {
-    let p1 = put_number(&mut *out, at, steps, b' ');
-    let p2 = put_number(&mut *out, p1, element, b' ');
-    let p3 = put_number(&mut *out, p2, lead, b' ');
-    let p4 = put_number(&mut *out, p3, q, b' ');
-    let p5 = put_number(&mut *out, p4, e, b' ');
-    let p6 = put_number(&mut *out, p5, v, b' ');
-    put_number(&mut *out, p6, d, b'\n')
+    let p1 = put_short_or_long(&mut *out, at, steps, b' ');
+    let p2 = put_short_or_long(&mut *out, p1, element, b' ');
+    let p3 = put_short_or_long(&mut *out, p2, lead, b' ');
+    let p4 = put_short_or_long(&mut *out, p3, q, b' ');
+    let p5 = put_short_or_long(&mut *out, p4, e, b' ');
+    let p6 = put_short_or_long(&mut *out, p5, v, b' ');
+    put_short_or_long(&mut *out, p6, d, b'\n')
 }
 
 // The line of a refusal, put at a place; the place after it.

@@ -1,16 +1,9 @@
 -- What the code of a forecast holds of the last rains.
 use Prim.Native.Nat.{ℕ, _<_}
 use mathlib.Core.Bool.{cond}
-use mathlib.Core.List.{List}
-use mathlib.Core.Path.{_≡_}
 use lib.Dec.{eqb}
-use lib.ListN.{getD}
 use Rattle.table.specs.declared.Table.{Table}
-use Rattle.table.specs.Tables.{TableValues}
 use Rattle.table.specs.InUse.{valuesOf}
-use Rattle.record.specs.declared.Input.{Input}
-use Rattle.record.specs.declared.Observation.the-variants.{Nothing}
-use Rattle.record.specs.Decoded.{noInput}
 use Rattle.state.specs.declared.Rains.{Rains}
 use Rattle.state.specs.declared.State.{State}
 use Rattle.state.specs.States.{placeOf}
@@ -25,10 +18,3 @@ pub record StateUnder (table : Table) (s : State) : Type 0 where
 -- the sum of an element's last c rains; those of a reach are not read
 unfoldable pub sumOf : ℕ → Rains → ℕ → ℕ
 sumOf kind rains c = cond (eqb kind 1) (rainSum rains c) 0
-
--- each element has no observation, and each basin the sum of its last c rains
-pub record HoldsSums (places : List Input) (t : TableValues) (s : State) (c n : ℕ) : Type 0 where
-  pub observation : (i : ℕ) → i < n → getD places i noInput .observation ≡ Nothing
-  pub rain :
-      (i : ℕ) → i < n → t .element i .kind ≡ 1 → getD places i noInput .rain ≡ rainSum (placeOf s i .rains) c
-  pub small : (i : ℕ) → i < n → getD places i noInput .rain < 9001

@@ -1,16 +1,10 @@
 // The sums of the last rains, for a forecast.
 ghost use mathlib.Core.Path.{_≡_};
 ghost use Prim.Native.Nat.{_≤_, _<_};
-ghost use Rattle.table.specs.InUse.{valuesOf};
 ghost use Rattle.network.specs.Forecast.{rainCount, rainSum};
 ghost use Rattle.network.specs.Bounds.{RainsUnder};
-ghost use Rattle.rain_sums.specs.Sums.{StateUnder, sumOf, HoldsSums};
-use rains::no_inputs;
-use record::Input;
-use record::Observation;
+ghost use Rattle.rain_sums.specs.Sums.{sumOf};
 use state::Rains;
-use state::State;
-use table::Table;
 
 // The smaller of 3 and the step count.
 pub fn rain_count(steps: u64) -> u64
@@ -33,7 +27,7 @@ fn rain_sum(rains: Rains, count: u64) -> u64
 }
 
 // The sum of an element's last rains: a basin's own, and 0 for every other kind, whose rains are not read.
-fn sum_of(kind: u64, rains: Rains, count: u64) -> u64
+pub fn sum_of(kind: u64, rains: Rains, count: u64) -> u64
     requires { ⌜ (count ≤ 3) × RainsUnder kind rains ⌝ }
     ensures { λ r. ⌜ (r ≡ sumOf kind rains count) × (r < 9001) ⌝ }
 {
@@ -41,22 +35,4 @@ fn sum_of(kind: u64, rains: Rains, count: u64) -> u64
         1 => rain_sum(rains, count),
         _ => 0,
     }
-}
-
-// Each element with the sum of its last rains and no observation.
-pub fn sums_of(table: Table, state: State, count: u64) -> [Input; 64]
-    requires { ⌜ (table .elements ≤ 64) × ((count ≤ 3) × StateUnder table state) ⌝ }
-    ensures { λ r. ⌜ HoldsSums r (valuesOf table) state count (table .elements) ⌝ }
-{
-    let n = table.elements;
-    let mut input = no_inputs();
-    for i in 0..n {
-        let e = table.element[i];
-        let place = state.element[i];
-        input[i] = Input {
-            rain: sum_of(e.kind, place.rains, count),
-            observation: Observation::Nothing,
-        };
-    }
-    input
 }

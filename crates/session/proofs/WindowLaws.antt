@@ -8,9 +8,9 @@ use native.Mathlib.Numerals.{add-one}
 use native.Mathlib.Omega.{arith}
 use Rattle.session.specs.declared.Window.{Window}
 use Rattle.session.specs.declared.Session.{Session}
-use Rattle.session.specs.Windows.{Within, SessionFits}
+use Rattle.session.specs.Windows.{Within, Kept, SessionFits}
 use lib.ListN.{length, take, drop, set, getD, length-take, length-drop}
-use lib.Seq.{take-suc, take-suc-set, drop-set-lt, drop-drop, getD-drop}
+use lib.Seq.{take-take, take-suc, take-suc-set, drop-set-lt, drop-drop, getD-drop}
 
 -- one more byte moved to the front: what was moved, and what is as it was
 module _ (before now : List ℕ) (from i : ℕ)
@@ -42,6 +42,10 @@ module _ (before now : List ℕ) (from i : ℕ)
 pub mid-short : (a k : ℕ) (l : List ℕ) → length (take k (drop a l)) ≤ length l - a
 mid-short a k l = rw (length-take, length-drop) (omega arith)
 
+-- the first bytes of a list
+pub short-part : (n : ℕ) (l : List ℕ) → n ≤ length l → length (take n l) ≤ n
+short-part n l h = rw length-take (omega arith)
+
 pub session-as : {s : Session} {n m : ℕ} → SessionFits s n → n ≡ m → SessionFits s m
 session-as {s} h e = subst (SessionFits s) e h
 
@@ -56,3 +60,24 @@ pub window-after :
     → Within (record { from = w .from + n; have = w .have; more = more }) size
 window-after w n size l more h few =
     record { order = omega (arith, part-short (w .from) (w .have) l, h .order); inside = h .inside }
+
+-- nothing is read yet
+pub kept-begin : (l : List ℕ) (w : Window) → Within w (length l) → Kept l (w .from) (w .have) l w
+kept-begin l w h = record { within = h; grown = omega arith; bytes = refl }
+
+-- one read more
+pub kept-again :
+    (first second third : List ℕ) (from have : ℕ) (w v : Window)
+    → length second ≡ length first
+    → Kept first from have second w
+    → Kept second (w .from) (w .have) third v
+    → Kept first from have third v
+kept-again first second third from have w v same a b =
+    record {
+      within = subst (Within v) same (b .within);
+      grown = omega (arith, a .grown, b .grown);
+      bytes =
+          sym (take-take (have - from) (w .have - w .from) (drop (v .from) third) (a .grown))
+          ∙ (ap (take (have - from)) (b .bytes)
+          ∙ (take-take (have - from) (w .have - w .from) (drop (w .from) second) (a .grown) ∙ a .bytes));
+    }

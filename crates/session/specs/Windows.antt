@@ -14,6 +14,7 @@ pub record Within (w : Window) (size : ℕ) : Type 0 where
 -- the bytes from one place to another of a buffer are the first of a window of another
 pub record Kept (before : List ℕ) (from have : ℕ) (after : List ℕ) (w : Window) : Type 0 where
   pub within : Within w (length before)
+  pub grown : have - from ≤ w .have - w .from
   pub bytes : take (have - from) (drop (w .from) after) ≡ take (have - from) (drop from before)
 
 -- what the program holds lies within its buffers

@@ -2,8 +2,10 @@
 ghost use mathlib.Core.Path.{_≡_};
 ghost use Prim.Native.Nat.{_+_, _≤_};
 ghost use lib.ListN.{length, take, drop};
+ghost use Rattle.io.specs.Counts.{Counts};
 ghost use Rattle.plan.specs.Plans.{PlanFits};
 ghost use Rattle.session.specs.Windows.{Within, Kept, SessionFits};
+use fields::bytes::read16;
 use plan::Plan;
 use report::answer_next;
 use state::State;
@@ -27,35 +29,65 @@ fn move_front(input: &mut [u8], from: usize, count: usize)
     }
 }
 
-// What is left of the input, moved to the front and filled up.
+// One read of standard input; how many bytes it brought.
+fn read_some(buffer: &mut [u8]) -> usize
+    ensures { λ r. ⌜ Counts r (now (buffer .exit)) ⌝ }
+{
+    let got = libc::read(0, &mut *buffer);
+    io::count(got, &*buffer)
+}
+
+// What is left of the input, moved to the front, and what one read brings after it; the input has ended where it brings nothing.
 fn refilled(input: &mut [u8], from: usize, have: usize) -> Window
     requires { ⌜ (from ≤ have) × (have ≤ length (now input)) ⌝ }
     ensures { λ r. ⌜ Kept (now (input .entry)) from have (now (input .exit)) r ⌝ }
 {
     let left = have - from;
     move_front(&mut *input, from, left);
-    let room = input.len() - left;
-    let got = io::read_full(0, &mut input[left..]);
+    let got = read_some(&mut input[left..]);
     Window {
         from: 0,
         have: left + got,
-        more: got == room,
+        more: got > 0,
     }
 }
 
-// The window with at least the longest record in it, or all that is left.
-fn enough(input: &mut [u8], window: Window) -> Window
+// Whether a whole record is held.
+fn holds_record(held: &[u8]) -> bool {
+    let size = held.len();
+    if size < 2 {
+        return false;
+    }
+    read16(held, 0) + 2 <= size as u64
+}
+
+// Whether more input is to be read before the next record is answered.
+fn wants_more(input: &[u8], window: Window) -> bool
     requires { ⌜ Within window (length (now input)) ⌝ }
-    ensures { λ r. ⌜ Kept (now (input .entry)) (window .from) (window .have) (now (input .exit)) r ⌝ }
 {
     let from = window.from;
     let have = window.have;
     if window.more {
-        if have - from < 65_537 {
-            return refilled(&mut *input, from, have);
-        }
+        return !holds_record(&input[from..have]);
     }
-    window
+    false
+}
+
+// The window with a whole record in it, or all that is left. A record has at most 65,537 bytes, and a read brings one or the end.
+fn enough(input: &mut [u8], window: Window) -> Window
+    requires { ⌜ Within window (length (now input)) ⌝ }
+    ensures { λ r. ⌜ Kept (now (input .entry)) (window .from) (window .have) (now (input .exit)) r ⌝ }
+{
+    let mut held = window;
+    let mut reads: u64 = 0;
+    while reads < 65_538 {
+        if !wants_more(&*input, held) {
+            break;
+        }
+        held = refilled(&mut *input, held.from, held.have);
+        reads += 1;
+    }
+    held
 }
 
 // Writes the text so far.
@@ -71,6 +103,18 @@ fn flushed(out: &[u8], at: usize) -> usize
     ensures { λ r. ⌜ r ≤ 139840 ⌝ }
 {
     if 139_840 < at {
+        write_out(out, at);
+        return 0;
+    }
+    at
+}
+
+// Writes the text so far before more input is waited for; the place to go on at.
+fn shown(input: &[u8], window: Window, out: &[u8], at: usize) -> usize
+    requires { ⌜ Within window (length (now input)) × (at ≤ length (now out)) ⌝ }
+    ensures { λ r. ⌜ r ≤ at ⌝ }
+{
+    if wants_more(input, window) {
         write_out(out, at);
         return 0;
     }
@@ -143,12 +187,13 @@ pub fn answer_one(
     requires { ⌜ PlanFits plan × (SessionFits session (length (now input)) × ((length (now numbers) ≡ 3328) × (length (now out) ≡ 262144))) ⌝ }
     ensures { λ r. ⌜ SessionFits r (length (now (input .entry))) ⌝ }
 {
+    let at = shown(&*input, session.window, &*out, session.at);
     let window = enough(&mut *input, session.window);
     let state = session.state;
     let ready = Session {
         state,
         window,
-        at: session.at,
+        at,
         ended: session.ended,
     };
     answer_held(plan, ready, &*input, &mut *numbers, &mut *out)

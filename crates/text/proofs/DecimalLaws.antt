@@ -3,8 +3,8 @@ use Prim.Native.Nat.{ℕ, zero, suc, _+_, _-_, _*_, _/_, _%_, _^_, _≤_, _<_}
 use mathlib.Core.Bool.{Bool, true, false, cond}
 use lib.Dec.{ltb}
 use borrow.Author.Tests.{lt-ltb, le-ltb}
-use native.Mathlib.Nat.{mod-eq-of-lt, pow-suc, one-le-pow}
-use mathlib.Core.List.{List, [], _∷_, _++_}
+use native.Mathlib.Nat.{mod-eq-of-lt, pow-suc, one-le-pow, add-mul-mod-self-left, add-mul-div-left, div-eq-of-lt}
+use mathlib.Core.List.{List, [], _∷_, _++_, append-assoc}
 use mathlib.Core.Path.{_≡_, refl, sym, ap, subst, _∙_}
 use native.Mathlib.Omega.{arith}
 use lib.ListN.{length, length-append}
@@ -63,3 +63,118 @@ within-short (suc most) n = within-either most n (ltb n 10) (digitsWithin most (
 pub decimal-short : (n : ℕ) → length (decimal n) ≤ 20
 unfolding decimal
 decimal-short n = within-short 20 n
+
+-- room for one more digit than a number can have changes nothing
+one-more : (most n : ℕ) → n < 10 ^ suc most → digitsWithin (suc most) n ≡ digitsWithin (suc (suc most)) n
+unfolding digitsWithin
+one-more zero n h = rw (lt-ltb n 10 (omega (arith, h)))
+one-more (suc most) n h =
+    let p = 10 ^ suc most in
+    let h′ : n < p * 10 = rw (pow-suc 10 (suc most)) at h in
+    ap (λ ds. cond (ltb n 10) ((48 + n) ∷ []) (ds ++ (48 + n % 10) ∷ [])) (one-more most (n / 10) (omega arith))
+
+-- the last four digits
+abbrev four-of : ℕ → List ℕ
+four-of n = (48 + n / 10 / 10 / 10 % 10) ∷ (48 + n / 10 / 10 % 10) ∷ (48 + n / 10 % 10) ∷ (48 + n % 10) ∷ []
+
+last-four : (n : ℕ) → lastDigits 4 (n % 10000) ≡ four-of n
+unfolding lastDigits
+last-four n =
+    let a : n % 10000 / 10 / 10 / 10 % 10 ≡ n / 10 / 10 / 10 % 10 = omega arith in
+    let b : n % 10000 / 10 / 10 % 10 ≡ n / 10 / 10 % 10 = omega arith in
+    let c : n % 10000 / 10 % 10 ≡ n / 10 % 10 = omega arith in
+    let d : n % 10000 % 10 ≡ n % 10 = omega arith in
+    rw (a, b, c, d)
+
+four-more : (n most : ℕ) → 10000 ≤ n
+    → digitsWithin (suc (suc (suc (suc most)))) n ≡ digitsWithin most (n / 10000) ++ lastDigits 4 (n % 10000)
+four-more n most h =
+    let e : n / 10 / 10 / 10 / 10 ≡ n / 10000 = omega arith in
+    rw (
+      more-digits n (suc (suc (suc most))) (omega arith),
+      more-digits (n / 10) (suc (suc most)) (omega arith),
+      more-digits (n / 10 / 10) (suc most) (omega arith),
+      more-digits (n / 10 / 10 / 10) most (omega arith),
+      last-four,
+      e,
+    )
+    (simp append-assoc)
+
+-- a number of more than four digits: those before the last four, and these, with zeros where they stand
+pub decimal-four : (n : ℕ) → 10000 ≤ n → n < 1000000000000 → decimal (n / 10000) ++ lastDigits 4 (n % 10000) ≡ decimal n
+unfolding decimal
+decimal-four n h small =
+    let e : digitsWithin 16 (n / 10000) ≡ digitsWithin 20 (n / 10000) =
+    one-more 15 (n / 10000) (omega arith)
+    ∙ one-more 16 (n / 10000) (omega arith)
+    ∙ one-more 17 (n / 10000) (omega arith)
+    ∙ one-more 18 (n / 10000) (omega arith) in
+    sym (four-more n 16 h ∙ ap (λ ds. ds ++ lastDigits 4 (n % 10000)) e)
+
+-- a number of more than eight digits
+pub decimal-eight : (n : ℕ) → 100000000 ≤ n → n < 1000000000000
+    → (decimal (n / 100000000) ++ lastDigits 4 (n % 100000000 / 10000)) ++ lastDigits 4 (n % 100000000 % 10000) ≡ decimal n
+decimal-eight n h small =
+    let a : n / 100000000 ≡ n / 10000 / 10000 = omega arith in
+    let b : n % 100000000 / 10000 ≡ n / 10000 % 10000 = omega arith in
+    let c : n % 100000000 % 10000 ≡ n % 10000 = omega arith in
+    rw (a, b, c)
+    (ap (λ ds. ds ++ lastDigits 4 (n % 10000)) (decimal-four (n / 10000) (omega arith) (omega arith))
+    ∙ decimal-four n (omega arith) small)
+
+-- division by a product and a shift
+pub tenth : (n : ℕ) → n < 10000 → n * 6554 / 65536 ≡ n / 10
+tenth n h = omega arith
+
+-- a word without its lowest byte
+low : (a b word : ℕ) → a < 256 → word ≡ a + 256 * b → (word % 256 ≡ a) × (word / 256 ≡ b)
+low a b word h e = (
+  rw (e, add-mul-mod-self-left a 256 b) (mod-eq-of-lt h),
+  rw (e, add-mul-div-left a b {y = 256} (omega arith), div-eq-of-lt h) (omega arith),
+)
+
+less : (big small word rest : ℕ) → word ≡ big - small → big ≡ rest + small → word ≡ rest
+less big small word rest e f = omega arith
+
+-- the bytes of a word that holds two digits, the first one lowest
+pub word-2 : (n t word : ℕ) → n < 100 → t ≡ n / 10 → word ≡ 256 * n + 12336 - 2559 * t
+    → word % 256 ∷ word / 256 % 256 ∷ [] ≡ lastDigits 2 n
+unfolding lastDigits
+word-2 n t word h et e =
+    let b = 48 + n % 10 in
+    let f : word ≡ 48 + n / 10 % 10 + 256 * b = less _ _ _ _ e (omega arith) in
+    let l = low (48 + n / 10 % 10) b word (omega arith) f in
+    let p : word / 256 % 256 ≡ 48 + n % 10 = rw (l .1) (omega arith) in
+    rw (l .0, p)
+
+pub two-pairs : (n : ℕ) → lastDigits 2 (n / 100) ++ lastDigits 2 (n - 100 * (n / 100)) ≡ lastDigits 4 n
+unfolding lastDigits
+two-pairs n =
+    let a : n / 100 / 10 % 10 ≡ n / 10 / 10 / 10 % 10 = omega arith in
+    let b : n / 100 % 10 ≡ n / 10 / 10 % 10 = omega arith in
+    let c : (n - 100 * (n / 100)) / 10 % 10 ≡ n / 10 % 10 = omega arith in
+    let d : (n - 100 * (n / 100)) % 10 ≡ n % 10 = omega arith in
+    rw (c, d, a, b)
+
+-- numbers of one digit to four
+pub decimal-1 : (n : ℕ) → n < 10 → (48 + n) ∷ [] ≡ decimal n
+unfolding decimal digitsWithin
+decimal-1 n h = rw (lt-ltb n 10)
+
+pub decimal-2 : (n : ℕ) → 10 ≤ n → n < 100 → lastDigits 2 n ≡ decimal n
+decimal-2 n h k =
+    decimal-counted n 2 (record { some = omega arith; few = omega arith; enough = omega arith; needed = λ m. omega arith })
+
+pub decimal-3 : (n : ℕ) → 100 ≤ n → n < 1000 → (48 + n / 100) ∷ lastDigits 2 (n - 100 * (n / 100)) ≡ decimal n
+unfolding lastDigits
+decimal-3 n h k =
+    let a : n / 100 ≡ n / 10 / 10 % 10 = omega arith in
+    let b : (n - 100 * (n / 100)) / 10 % 10 ≡ n / 10 % 10 = omega arith in
+    let c : (n - 100 * (n / 100)) % 10 ≡ n % 10 = omega arith in
+    let d : DigitCount n 3 =
+    record { some = omega arith; few = omega arith; enough = omega arith; needed = λ m. omega arith } in
+    rw (b, c, a) (decimal-counted n 3 d)
+
+pub decimal-4 : (n : ℕ) → 1000 ≤ n → n < 10000 → lastDigits 4 n ≡ decimal n
+decimal-4 n h k =
+    decimal-counted n 4 (record { some = omega arith; few = omega arith; enough = omega arith; needed = λ m. omega arith })

@@ -1,5 +1,5 @@
 -- Laws of bytes put at a place.
-use Prim.Native.Nat.{ℕ, suc, _+_, _/_, _%_, _≤_, _<_}
+use Prim.Native.Nat.{ℕ, suc, _+_, _-_, _*_, _/_, _%_, _≤_, _<_}
 use mathlib.Core.List.{List, [], _∷_, _++_, append-assoc, append-nil}
 use mathlib.Core.Path.{_≡_, refl, sym, ap, subst, _∙_}
 use native.Mathlib.Nat.{add-zero}
@@ -9,7 +9,7 @@ use lib.ListN.{length, take, drop, set, getD, length-append, length-take, length
 use lib.Seq.{set-at, take-suc, take-length, take-at, drop-at, drop-cons, drop-set-lt, take-set-le, getD-set-same, length-take-le, drop-drop}
 use Rattle.text.specs.Places.{putAt, Put}
 use Rattle.text.specs.Decimal.{decimal, lastDigits, DigitCount}
-use Rattle.text.proofs.DecimalLaws.{length-last-digits, decimal-counted}
+use Rattle.text.proofs.DecimalLaws.{length-last-digits, decimal-counted, two-pairs, decimal-3, decimal-four, decimal-eight}
 
 drop-set-same : (l : List ℕ) (i b : ℕ) → i < length l → drop i (set l i b) ≡ b ∷ drop (suc i) l
 drop-set-same l i b h =
@@ -73,19 +73,6 @@ pub nothing-left : (l : List ℕ) (at left n : ℕ) (after : List ℕ) → left 
 unfolding lastDigits
 nothing-left l at left n after e h = sym (put-none l at) ∙ ap (λ k. putAt l at (lastDigits k n)) (sym e) ∙ h
 
--- the byte after a number, and then its digits
-pub put-counted : (l : List ℕ) (at n b count : ℕ) (after : List ℕ) → DigitCount n count → at + 21 ≤ length l
-    → after ≡ putAt (set l (at + count) b) at (lastDigits count n) → Put l at (decimal n ++ b ∷ []) after (at + count + 1)
-put-counted l at n b count after d room e =
-    let k : length (decimal n) ≡ count = ap length (sym (decimal-counted n count d)) ∙ length-last-digits count n in
-    record {
-      holds =
-          e ∙ ap (putAt (set l (at + count) b) at) (decimal-counted n count d)
-          ∙ subst (λ i. putAt (set l (at + i) b) at (decimal n) ≡ putAt l at (decimal n ++ b ∷ [])) k
-          (put-last l at (decimal n) b (omega (arith, d .few)));
-      ends = rw length-append (omega arith);
-    }
-
 -- a byte stored after others that were put
 pub put-next : (l : List ℕ) (at : ℕ) (bytes : List ℕ) (b i : ℕ) → length bytes ≡ i → at + i < length l
     → set (putAt l at bytes) (at + i) b ≡ putAt l at (bytes ++ b ∷ [])
@@ -123,3 +110,73 @@ put-same {l} {at} {a} {b} {m} {i} e p = subst (λ x. Put l at x m i) e p
 
 pub put-nothing : (l : List ℕ) (at : ℕ) → Put l at [] l at
 put-nothing l at = record { holds = sym (put-none l at); ends = omega arith }
+
+pub put-ends : {l : List ℕ} {at : ℕ} {a m : List ℕ} {i j : ℕ} → Put l at a m i → i ≡ j → Put l at a m j
+put-ends {l} {at} {a} {m} {i} {j} p e = record { holds = p .holds; ends = sym e ∙ p .ends }
+
+-- so many digits of a number
+pub put-counted : (l : List ℕ) (at n count : ℕ) (after : List ℕ) → DigitCount n count
+    → after ≡ putAt l at (lastDigits count n) → Put l at (decimal n) after (at + count)
+put-counted l at n count after d e =
+    let k : length (decimal n) ≡ count = ap length (sym (decimal-counted n count d)) ∙ length-last-digits count n in
+    record { holds = e ∙ ap (putAt l at) (decimal-counted n count d); ends = ap (λ i. at + i) (sym k) }
+
+-- a byte stored
+pub put-one : (l : List ℕ) (at b : ℕ) → at < length l → Put l at (b ∷ []) (set l at b) (at + 1)
+put-one l at b h =
+    let e : at + 0 ≡ at = omega arith in
+    record {
+      holds =
+          ap (λ i. set l i b) (sym e) ∙ ap (λ m. set m (at + 0) b) (sym (put-none l at))
+          ∙ put-next l at [] b 0 refl (omega arith);
+      ends = refl;
+    }
+
+-- a byte stored after others
+pub put-byte : {l : List ℕ} {at : ℕ} {a m : List ℕ} {i : ℕ} (b : ℕ) → Put l at a m i
+    → at + length a < length l → Put l at (a ++ b ∷ []) (set m i b) (i + 1)
+put-byte {l} {at} {a} {m} {i} b p room =
+    let h : i < length m = rw (p .holds, length-put l at a (omega arith)) (omega (arith, p .ends)) in
+    put-then p (put-one m i b h) (omega arith)
+
+-- bytes stored one after the other
+pub put-two : (l : List ℕ) (at a b : ℕ) → at + 2 ≤ length l
+    → Put l at (a ∷ b ∷ []) (set (set l at a) (at + 1) b) (at + 2)
+put-two l at a b room = put-ends (put-byte b (put-one l at a (omega arith)) (omega arith)) (omega arith)
+
+-- digits after others
+pub digits-then : (count n : ℕ) {l : List ℕ} {at : ℕ} {a m o : List ℕ} {i j : ℕ} → Put l at a m i
+    → Put m i (lastDigits count n) o j → i + count ≤ length l → Put l at (a ++ lastDigits count n) o j
+digits-then count n p q room = put-then p q (rw length-last-digits (omega (arith, p .ends)))
+
+pub put-four : (n : ℕ) {l : List ℕ} {at : ℕ} {m o : List ℕ} → Put l at (lastDigits 2 (n / 100)) m (at + 2)
+    → Put m (at + 2) (lastDigits 2 (n - 100 * (n / 100))) o (at + 2 + 2) → at + 4 ≤ length l
+    → Put l at (lastDigits 4 n) o (at + 4)
+put-four n p q room =
+    put-ends (put-same (two-pairs n) (digits-then 2 (n - 100 * (n / 100)) p q (omega arith))) (omega arith)
+
+-- a number's first digits, and its last four
+pub decimal-then-four : (n : ℕ) {l : List ℕ} {at : ℕ} {m o : List ℕ} {i : ℕ} → 10000 ≤ n → n < 1000000000000
+    → Put l at (decimal (n / 10000)) m i → Put m i (lastDigits 4 (n % 10000)) o (i + 4) → i + 4 ≤ length l
+    → Put l at (decimal n) o (i + 4)
+decimal-then-four n h k p q room = put-same (decimal-four n h k) (digits-then 4 (n % 10000) p q room)
+
+-- a number's first digits, and its last eight
+pub decimal-then-eight : (n : ℕ) {l : List ℕ} {at : ℕ} {m o r : List ℕ} {i : ℕ} → 100000000 ≤ n → n < 1000000000000
+    → Put l at (decimal (n / 100000000)) m i → Put m i (lastDigits 4 (n % 100000000 / 10000)) o (i + 4)
+    → Put o (i + 4) (lastDigits 4 (n % 100000000 % 10000)) r (i + 4 + 4) → i + 8 ≤ length l → Put l at (decimal n) r (i + 8)
+decimal-then-eight n h k p q s room =
+    put-ends
+    (put-same (decimal-eight n h k)
+    (digits-then 4 (n % 100000000 % 10000) (digits-then 4 (n % 100000000 / 10000) p q (omega arith)) s (omega arith)))
+    (omega arith)
+
+-- a number of three digits: the first, and a pair
+pub put-first : (n : ℕ) {l : List ℕ} {at : ℕ} {m : List ℕ} → 100 ≤ n → n < 1000 → at + 4 ≤ length l
+    → Put (set l at (48 + n / 100)) (at + 1) (lastDigits 2 (n - 100 * (n / 100))) m (at + 1 + 2)
+    → Put l at (decimal n) m (at + 3)
+put-first n {l} {at} {m} h k room p =
+    put-ends
+    (put-same (decimal-3 n h k)
+    (digits-then 2 (n - 100 * (n / 100)) (put-one l at (48 + n / 100) (omega arith)) p (omega arith)))
+    (omega arith)

@@ -7,50 +7,50 @@ use Rattle.answer_space.specs.Places.{put}
 use Rattle.answer_space.proofs.put_figures.Statement.{statement}
 use Rattle.answer_space.proofs.put_figures.Tie as tie
 
-mul-answer : tie.Need-mul-answer
-mul-answer c = search needs
+mul-numbers : tie.Need-mul-numbers
+mul-numbers c = search needs
 
-mul-answer-2 : tie.Need-mul-answer-2
-mul-answer-2 c = search needs
+mul-numbers-2 : tie.Need-mul-numbers-2
+mul-numbers-2 c = search needs
 
-slice-write-answer : tie.Need-slice-write-answer
-slice-write-answer c = search needs
+slice-write-numbers : tie.Need-slice-write-numbers
+slice-write-numbers c = search needs
 
-mul-answer-3 : tie.Need-mul-answer-3
-mul-answer-3 c = search needs
+mul-numbers-3 : tie.Need-mul-numbers-3
+mul-numbers-3 c = search needs
 
-add-answer : tie.Need-add-answer
-add-answer c = search needs
+add-numbers : tie.Need-add-numbers
+add-numbers c = search needs
 
-mul-answer-4 : tie.Need-mul-answer-4
-mul-answer-4 c = search needs
+mul-numbers-4 : tie.Need-mul-numbers-4
+mul-numbers-4 c = search needs
 
-slice-write-answer-2 : tie.Need-slice-write-answer-2
-slice-write-answer-2 c = simp length-set (omega (arith, c .before .before .before .before .pre .0, c .before .before .before .before .pre .1))
+slice-write-numbers-2 : tie.Need-slice-write-numbers-2
+slice-write-numbers-2 c = simp length-set (omega (arith, c .before .before .before .before .pre))
 
-mul-answer-5 : tie.Need-mul-answer-5
-mul-answer-5 c = search needs
+mul-numbers-5 : tie.Need-mul-numbers-5
+mul-numbers-5 c = search needs
 
-add-answer-2 : tie.Need-add-answer-2
-add-answer-2 c = search needs
+add-numbers-2 : tie.Need-add-numbers-2
+add-numbers-2 c = search needs
 
-mul-answer-6 : tie.Need-mul-answer-6
-mul-answer-6 c = search needs
+mul-numbers-6 : tie.Need-mul-numbers-6
+mul-numbers-6 c = search needs
 
-slice-write-answer-3 : tie.Need-slice-write-answer-3
-slice-write-answer-3 c = simp length-set (omega (arith, c .before .before .before .before .pre .0, c .before .before .before .before .pre .1))
+slice-write-numbers-3 : tie.Need-slice-write-numbers-3
+slice-write-numbers-3 c = simp length-set (omega (arith, c .before .before .before .before .pre))
 
-mul-answer-7 : tie.Need-mul-answer-7
-mul-answer-7 c = search needs
+mul-numbers-7 : tie.Need-mul-numbers-7
+mul-numbers-7 c = search needs
 
-add-answer-3 : tie.Need-add-answer-3
-add-answer-3 c = search needs
+add-numbers-3 : tie.Need-add-numbers-3
+add-numbers-3 c = search needs
 
-mul-answer-8 : tie.Need-mul-answer-8
-mul-answer-8 c = search needs
+mul-numbers-8 : tie.Need-mul-numbers-8
+mul-numbers-8 c = search needs
 
-slice-write-answer-4 : tie.Need-slice-write-answer-4
-slice-write-answer-4 c = simp length-set (omega (arith, c .before .before .before .before .pre .0, c .before .before .before .before .pre .1))
+slice-write-numbers-4 : tie.Need-slice-write-numbers-4
+slice-write-numbers-4 c = simp length-set (omega (arith, c .before .before .before .before .pre))
 
 same-length : tie.Need-same-length
 same-length c = search needs
@@ -63,20 +63,20 @@ pub put-figures-spec : {M : Type 1} → statement M
 put-figures-spec =
     tie.close
     (tie.spec
-    mul-answer
-    mul-answer-2
-    slice-write-answer
-    mul-answer-3
-    add-answer
-    mul-answer-4
-    slice-write-answer-2
-    mul-answer-5
-    add-answer-2
-    mul-answer-6
-    slice-write-answer-3
-    mul-answer-7
-    add-answer-3
-    mul-answer-8
-    slice-write-answer-4
+    mul-numbers
+    mul-numbers-2
+    slice-write-numbers
+    mul-numbers-3
+    add-numbers
+    mul-numbers-4
+    slice-write-numbers-2
+    mul-numbers-5
+    add-numbers-2
+    mul-numbers-6
+    slice-write-numbers-3
+    mul-numbers-7
+    add-numbers-3
+    mul-numbers-8
+    slice-write-numbers-4
     same-length
     returns)

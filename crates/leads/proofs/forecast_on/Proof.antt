@@ -1,14 +1,13 @@
 -- `forecast_on` meets its contract.
-use Prim.Native.Nat.{ℕ, _+_, _*_, _≤_}
-use mathlib.Core.Path.{_≡_, refl}
+use Prim.Native.Nat.{_+_, _*_, _≤_}
+use mathlib.Core.Path.{refl}
 use borrow.Author.Needs.{needs}
 use native.Mathlib.Nat.{mul-le-mul}
 use native.Mathlib.Omega.{arith}
 use Rattle.table.specs.InUse.{valuesOf}
 use Rattle.table.proofs.HeldLaws.{few-elements}
 use Rattle.rain_sums.specs.Sums.{StateUnder}
-use Rattle.leads.proofs.LeadsLaws.{few-leads}
-use Rattle.leads.proofs.ForecastLaws.{state-under, space-refused, leads-refused, leads-accepted}
+use Rattle.leads.proofs.ForecastLaws.{few-leads, state-under, space-refused, leads-refused, leads-accepted}
 use Rattle.leads.proofs.forecast_on.Statement.{statement}
 use Rattle.leads.proofs.forecast_on.Tie as tie
 
@@ -45,19 +44,17 @@ returns c = space-refused _ _ _ (c .if1 .taken)
 rain-count-requires : tie.Need-rain-count-requires
 rain-count-requires c κs = search needs
 
-sums-of-requires : tie.Need-sums-of-requires
-sums-of-requires c κs =
-    let b = start (c .before) in (few b, (c .rain-count .ensures .1, under b))
-
 slice-aggregate-work-leads : tie.Need-slice-aggregate-work-leads
 slice-aggregate-work-leads c = search needs
 
+slice-aggregate-work-leads-2 : tie.Need-slice-aggregate-work-leads-2
+slice-aggregate-work-leads-2 c = search needs
+
 work-leads-requires : tie.Need-work-leads-requires
 work-leads-requires c κs =
-    let s = c .before in
-    let r = s .before in
+    let r = c .before .before in
     let b = start (r .before) in
-    (b .pre .0, (r .rain-count .ensures .0, (s .sums-of .ensures, (under b, refl))))
+    (b .pre .0, (r .rain-count .ensures .0, (under b, (refl, refl))))
 
 enum-told : tie.Need-enum-told
 enum-told c = search needs
@@ -67,7 +64,7 @@ slice-aggregate-copy-numbers c = search needs
 
 copy-numbers-requires : tie.Need-copy-numbers-requires
 copy-numbers-requires c κs =
-    let w = c .before .before .before .before .before in
+    let w = c .before .before .before .before .before .before in
     let e = w .before .before .before .before in
     (omega (arith, w .work-leads .kept, most (start e)), omega (arith, e .if1 .left))
 
@@ -82,7 +79,7 @@ unfolding valuesOf
 returns-2 c =
     let k = c .before .before in
     let m = k .before .before .before in
-    let w = m .before .before .before in
+    let w = m .before .before .before .before in
     let e = w .before .before .before .before in
     rw (k .copy-numbers .ensures)
     (leads-accepted _ _ _ (omega (arith, e .if1 .left)) (start e .pre .0 .table) _ (omega (arith, w .work-leads .kept)) _ (w .work-leads .ensures) (m .enum-told .given .1))
@@ -91,7 +88,7 @@ returns-3 : tie.Need-returns-3
 unfolding valuesOf
 returns-3 c =
     let v = c .before in
-    let w = v .before .before .before in
+    let w = v .before .before .before .before in
     let e = w .before .before .before .before in
     leads-refused _ _ _ (omega (arith, e .if1 .left)) _ _ (w .work-leads .ensures) (v .verdict .given .1)
 
@@ -104,8 +101,8 @@ forecast-on-spec =
     mul-needed-2
     returns
     rain-count-requires
-    sums-of-requires
     slice-aggregate-work-leads
+    slice-aggregate-work-leads-2
     work-leads-requires
     enum-told
     slice-aggregate-copy-numbers

@@ -1,80 +1,99 @@
 -- `work_leads` meets its contract.
-use Prim.Native.Nat.{ℕ, _+_, _≤_, _<_, _-_}
-use mathlib.Core.Path.{_≡_, subst, _∙_}
+use Prim.Native.Nat.{_+_, _≤_, _<_, _-_}
+use mathlib.Core.Path.{_≡_, refl, ap}
 use borrow.Author.Needs.{needs}
 use native.Mathlib.Omega.{arith}
-use lib.ListN.{length}
+use lib.ListN.{length, getD}
+use Rattle.elements.specs.Elements.{noElement}
 use Rattle.table.specs.InUse.{valuesOf}
-use Rattle.record.proofs.RecordLaws.{length-told}
-use Rattle.table.proofs.HeldLaws.{few-elements}
-use Rattle.network.specs.Forecast.{rainCount, leadFigures}
-use Rattle.rain_sums.specs.Sums.{HoldsSums}
-use Rattle.answer_space.specs.Places.{LeadsHeld}
-use Rattle.leads.proofs.LeadsLaws.{few-leads, small-count, after-lead, Leading, leading-begin, sums-fit, leading-again, leading-refused}
-use Rattle.leads.proofs.ForecastLaws.{held-first, held-next, worked-accepted, worked-refused}
+use Rattle.table.proofs.HeldLaws.{few-elements, element-bounds}
+use Rattle.plan.proofs.PlanLaws.{weight-in-range}
+use Rattle.network.proofs.InRangeLaws.{element-in-range, figures-in-range}
+use Rattle.rain_sums.proofs.RainLaws.{rains-held}
+use Rattle.leads.proofs.LeadsLaws.{below-most, Walked, walked-begin, walked-again}
+use Rattle.leads.proofs.ForecastLaws.{few-leads, small-count, course-of, first-held, element-under, worked-accepted, worked-refused}
 use Rattle.leads.proofs.work_leads.Statement.{statement}
 use Rattle.leads.proofs.work_leads.Tie as tie
 
 abbrev Inv-loop : tie.InvT-loop
-Inv-loop plan input count answer₀ n leads current₀ lead₀ answer current lead =
-    (lead ≤ leads)
+Inv-loop count answer₀ sums₀ state table weight n leads i₀ answer sums i =
+    (i ≤ n)
     × ((length answer ≡ 3328)
-    × (Leading (plan .table) current₀ lead current
-    × LeadsHeld answer (leadFigures (valuesOf (plan .table)) current₀) (plan .table .elements) (plan .table .leads + 1) (lead + 1)))
+    × ((length sums ≡ 3380) × Walked (valuesOf table) state (table .leads + 1) (table .leads) i answer sums))
 
 abbrev μ-loop : tie.MeasureT-loop
-μ-loop plan input count answer₀ n leads current₀ lead₀ answer current lead = leads - lead
-
--- what the plan and the sums give
-module _ (c : tie.Start Inv-loop μ-loop) where
-  few : c .args .plan .table .elements ≤ 64
-  few = few-elements _ (c .pre .0 .table)
-
-  short : c .args .plan .table .leads ≤ 12
-  short = few-leads _ (c .pre .0 .table)
-
-  sums : HoldsSums (c .args .input) (valuesOf (c .args .plan .table)) (c .args .state) (rainCount (c .args .state .steps)) (c .args .plan .table .elements)
-  sums = subst (λ (k : ℕ). HoldsSums (c .args .input) (valuesOf (c .args .plan .table)) (c .args .state) k (c .args .plan .table .elements)) (c .pre .1 .0) (c .pre .1 .1 .0)
-
-  room : length (c .args .state .element) ≡ 64
-  room = search (needs, length-told)
-
--- a turn of the loop, and the beginning
-abbrev start : tie.In-loop Inv-loop μ-loop → tie.Start Inv-loop μ-loop
-start c = c .before .before .before .before .before .before .before .before
-
-add-put-lead : tie.Need-add-put-lead Inv-loop μ-loop
-add-put-lead c = omega (arith, short (c .before .before .before))
-
-put-lead-requires : tie.Need-put-lead-requires Inv-loop μ-loop
-put-lead-requires c κs =
-    let b = c .before .before .before in
-    (few b, (omega arith, (omega (arith, short b), b .pre .1 .1 .1 .1)))
+μ-loop count answer₀ sums₀ state table weight n leads i₀ answer sums i = n - i
 
 loop-holds : tie.Need-loop-holds Inv-loop μ-loop
 loop-holds c =
-    let f = c .before .before in
-    let b = f .before .before .before .before in (
-      omega arith,
-      (
-        f .put-lead .ensures .room ∙ b .pre .1 .1 .1 .1,
-        (leading-begin _ _ (room b) (b .pre .1 .1 .1 .0 .figures), held-first _ _ _ _ _ (f .put-lead .ensures)),
-      ),
-    )
+    let p = c .before .before .before .before .pre .1 .1 .1 in
+    (omega arith, (p .0, (ap length (p .1), walked-begin _ _ _ _ _ _ (p .1))))
 
-add-t20 : tie.Need-add-t20 Inv-loop μ-loop
-add-t20 c = omega (arith, short (start c))
+-- an element in use
+abbrev start : tie.In-loop Inv-loop μ-loop → tie.Start Inv-loop μ-loop
+start c = c .before .before .before .before .before .before
 
-advance-requires : tie.Need-advance-requires Inv-loop μ-loop
-advance-requires c κs =
-    let b = start c in
-    let p = b .pre in (
-      p .0,
-      (
-        record { count = omega (arith, small-count _ _ (p .1 .0)); lead = omega (arith, short b) },
-        (sums-fit _ _ _ (sums b), c .before .loop .inv .1 .1 .0 .fits),
-      ),
-    )
+module _ (c : tie.In-loop Inv-loop μ-loop) where
+  within : c .before .loop .i < 64
+  within = omega (arith, few-elements _ (start c .pre .0 .table))
+
+  down-within : getD (start c .args .plan .table .element) (c .before .loop .i) noElement .down < 65
+  down-within =
+      let p = start c .pre .0 .table in
+      omega (arith, few-elements _ p, element-bounds _ p _ (c .loop-test .taken) .down)
+
+mul-element : tie.Need-mul-element Inv-loop μ-loop
+mul-element c =
+    omega (arith, within c)
+
+element-copy-out-element : tie.Need-element-copy-out-element Inv-loop μ-loop
+element-copy-out-element c =
+    within c
+
+mul-place : tie.Need-mul-place Inv-loop μ-loop
+mul-place c =
+    omega (arith, within (c .before))
+
+element-copy-out-place : tie.Need-element-copy-out-place Inv-loop μ-loop
+element-copy-out-place c =
+    within (c .before)
+
+sum-of-requires : tie.Need-sum-of-requires Inv-loop μ-loop
+sum-of-requires c κs =
+    let l = c .before .before in
+    let p = start l .pre in
+    (small-count _ _ (p .1 .0), rains-held _ _ (p .1 .1 .0) _ (l .loop-test .taken))
+
+mul-t17 : tie.Need-mul-t17 Inv-loop μ-loop
+mul-t17 c =
+    omega (arith, within (c .before .before .before))
+
+array-read-t26 : tie.Need-array-read-t26 Inv-loop μ-loop
+array-read-t26 c =
+    within (c .before .before .before)
+
+work-element-requires : tie.Need-work-element-requires Inv-loop μ-loop
+work-element-requires c κs =
+    let r = c .before .before in
+    let l = r .before .before .before in
+    let p = start l .pre in
+    let inv = l .before .loop .inv .1 in
+    let taken = l .loop-test .taken in
+    record {
+      inRange = record {
+        element = element-in-range _ (p .0 .table) _ taken;
+        weight = weight-in-range _ _ (p .0 .weights) _ taken;
+        rain = omega (arith, r .sum-of .ensures .1);
+        count = small-count _ _ (p .1 .0);
+      };
+      fits = figures-in-range _ _ (p .1 .1 .0 .figures) _ taken;
+      few = within l;
+      short = few-leads _ (p .0 .table);
+      down = down-within l;
+      answerRoom = inv .0;
+      sumsRoom = inv .1 .0;
+      small = record { at = λ k m n. below-most _ _ _ (inv .1 .1 .small k m n) (omega (arith, within l)) };
+    }
 
 enum-told : tie.Need-enum-told Inv-loop μ-loop
 enum-told c = search needs
@@ -85,54 +104,60 @@ enum-told-2 c = search needs
 same-length : tie.Need-same-length Inv-loop μ-loop
 same-length c = search needs
 
+same-length-2 : tie.Need-same-length-2 Inv-loop μ-loop
+same-length-2 c =
+    let e = c .before .before .before .before .before .before in
+    let l = e .before .before .before .before .before .before in
+    omega (arith, e .work-element .kept .1 .1 .1 .1 .1 .0, l .before .loop .inv .1 .1 .0, ap length (start l .pre .1 .1 .1 .1))
+
 returns : tie.Need-returns Inv-loop μ-loop
 returns c =
-    let a = c .before .before in
-    let l = a .before in
-    let b = start l in
-    worked-refused _ _ _ _ (c .enum-told2 .given .1)
-    (leading-refused _ _ _ (sums b) _ _ (b .pre .1 .0) (after-lead _) _ (l .before .loop .inv .1 .1 .0) (few b) _ (a .advance .ensures) (c .enum-told2 .given .1) _ (l .loop-test .taken))
+    let e = c .before .before .before .before .before .before in
+    let r = e .before .before .before in
+    let l = r .before .before .before in
+    let p = start l .pre in
+    let taken = l .loop-test .taken in
+    worked-refused _ _ _ _ _
+    (element-under _ _ _ _ (course-of _ _ _ _ _ _ taken (p .0 .weights) (p .1 .0) (r .sum-of .ensures .0)) _ (first-held _ _) _ _ (l .before .loop .inv .1 .1 .1) taken)
+    (e .work-element .ensures .verdict) (c .enum-told2 .given .1)
 
-add-put-lead-2 : tie.Need-add-put-lead-2 Inv-loop μ-loop
-add-put-lead-2 c = omega (arith, short (start (c .before .before .before .before .before)))
-
-add-put-lead-3 : tie.Need-add-put-lead-3 Inv-loop μ-loop
-add-put-lead-3 c = omega (arith, short (start (c .before .before .before .before .before)))
-
-put-lead-requires-2 : tie.Need-put-lead-requires-2 Inv-loop μ-loop
-put-lead-requires-2 c κs =
-    let l = c .before .before .before .before .before in
-    let b = start l in
-    (few b, (omega (arith, l .loop-test .taken), (omega (arith, short b), l .before .loop .inv .1 .0)))
-
-add-lead : tie.Need-add-lead Inv-loop μ-loop
-add-lead c = omega (arith, short (start (c .before .before .before .before .before .before .before .before)))
+add-i : tie.Need-add-i Inv-loop μ-loop
+add-i c =
+    omega (arith, within (c .before .before .before .before .before .before .before .before .before .before .before .before))
 
 loop-less : tie.Need-loop-less Inv-loop μ-loop
 loop-less c = search needs
 
 loop-again : tie.Need-loop-again Inv-loop μ-loop
 loop-again c =
-    let p = c .before .before in
-    let m = p .before .before .before in
-    let a = m .before .before in
-    let l = a .before in
-    let b = start l in
-    let inv = l .before .loop .inv in
-    let h = leading-again _ _ _ (sums b) _ _ (b .pre .1 .0) (after-lead _) _ (inv .1 .1 .0) (few b) _ (a .advance .ensures) (m .enum-told .given .1) in (
+    let e = c .before .before .before .before .before .before in
+    let r = e .before .before .before in
+    let l = r .before .before .before in
+    let p = start l .pre in
+    let inv = l .before .loop .inv .1 in
+    let taken = l .loop-test .taken in
+    let kept = e .work-element .kept .1 .1 .1 .1 in (
       omega arith,
       (
-        p .put-lead2 .ensures .room ∙ inv .1 .0,
-        (h, held-next _ _ _ _ _ _ _ h (omega (arith, l .loop-test .taken)) (inv .1 .1 .1) (p .put-lead2 .ensures)),
+        omega (arith, kept .0, inv .0),
+        (
+          omega (arith, kept .1 .0, inv .1 .0),
+          walked-again _ _ _ _ (course-of _ _ _ _ _ _ taken (p .0 .weights) (p .1 .0) (r .sum-of .ensures .0)) _ (first-held _ _) _ _ _ _ (inv .1 .1) _ _ (e .work-element .ensures .led (c .enum-told .given .1)) refl,
+        ),
       ),
     )
 
-same-length-2 : tie.Need-same-length-2 Inv-loop μ-loop
-same-length-2 c = search needs
+same-length-3 : tie.Need-same-length-3 Inv-loop μ-loop
+same-length-3 c = search needs
+
+same-length-4 : tie.Need-same-length-4 Inv-loop μ-loop
+same-length-4 c =
+    let b = c .before .before .before .before .before .before in
+    omega (arith, c .before .loop .inv .1 .1 .0, ap length (b .pre .1 .1 .1 .1))
 
 returns-2 : tie.Need-returns-2 Inv-loop μ-loop
 returns-2 c =
-    let inv = c .before .loop .inv in worked-accepted _ _ _ _ _ (inv .1 .1 .0) (omega arith) (inv .1 .1 .1)
+    worked-accepted _ _ _ _ _ (c .before .loop .inv .1 .1 .1) (omega arith)
 
 pub work-leads-spec : {M : Type 1} → statement M
 work-leads-spec =
@@ -140,20 +165,23 @@ work-leads-spec =
     (tie.spec
     Inv-loop
     μ-loop
-    add-put-lead
-    put-lead-requires
     loop-holds
-    add-t20
-    advance-requires
+    mul-element
+    element-copy-out-element
+    mul-place
+    element-copy-out-place
+    sum-of-requires
+    mul-t17
+    array-read-t26
+    work-element-requires
     enum-told
     enum-told-2
     same-length
+    same-length-2
     returns
-    add-put-lead-2
-    add-put-lead-3
-    put-lead-requires-2
-    add-lead
+    add-i
     loop-less
     loop-again
-    same-length-2
+    same-length-3
+    same-length-4
     returns-2)

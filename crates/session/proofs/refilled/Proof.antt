@@ -15,20 +15,17 @@ sub-left c = search needs
 move-front-requires : tie.Need-move-front-requires
 move-front-requires c κs = search needs
 
-sub-room : tie.Need-sub-room
-sub-room c = search needs
+sub-read-some : tie.Need-sub-read-some
+sub-read-some c = search needs
 
-sub-read-full : tie.Need-sub-read-full
-sub-read-full c = search needs
+part-read-some-start : tie.Need-part-read-some-start
+part-read-some-start c = search needs
 
-part-read-full-start : tie.Need-part-read-full-start
-part-read-full-start c = search needs
+part-read-some-end : tie.Need-part-read-some-end
+part-read-some-end c = search needs
 
-part-read-full-end : tie.Need-part-read-full-end
-part-read-full-end c = search needs
-
-read-full-requires : tie.Need-read-full-requires
-read-full-requires c κs = search needs
+read-some-requires : tie.Need-read-some-requires
+read-some-requires c κs = search needs
 
 add-t10 : tie.Need-add-t10
 add-t10 c = search needs
@@ -48,9 +45,10 @@ returns c =
       within =
           record {
             order = omega arith;
-            inside = omega (arith, m .move-front .kept .0, r .read-full .kept .1 .0, mid-short left (length held - left) held);
+            inside = omega (arith, m .move-front .kept .0, r .read-some .kept .0, mid-short left (length held - left) held);
           };
-      bytes = take-put left (length held - left) held (r .read-full .last .1 .0) few ∙ m .move-front .ensures;
+      grown = omega arith;
+      bytes = take-put left (length held - left) held (r .read-some .last .0) few ∙ m .move-front .ensures;
     }
 
 pub refilled-spec : {M : Type 1} → statement M
@@ -59,11 +57,10 @@ refilled-spec =
     (tie.spec
     sub-left
     move-front-requires
-    sub-room
-    sub-read-full
-    part-read-full-start
-    part-read-full-end
-    read-full-requires
+    sub-read-some
+    part-read-some-start
+    part-read-some-end
+    read-some-requires
     add-t10
     same-length
     returns)

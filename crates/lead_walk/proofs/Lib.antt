@@ -1,0 +1,3 @@
+pub mod UnderLaws
+pub mod LedLaws
+pub mod WorkedLaws

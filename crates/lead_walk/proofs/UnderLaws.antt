@@ -1,0 +1,72 @@
+-- Rule 16 on numbers after numbers: none passes the ceiling where none of any part does.
+use Prim.{Unit}
+use Prim.Native.Nat.{ℕ}
+use mathlib.Core.Bool.{Bool, true, false, cond, _||_}
+use mathlib.Core.List.{List, [], _∷_, _++_}
+use mathlib.Core.Path.{_≡_, refl, sym, ap, _∙_}
+use native.Mathlib.Omega.{arith}
+use lib.Dec.{ltb}
+use Rattle.refusal.specs.Answers.{Answer, accepted, refused}
+use Rattle.units.specs.Units.{C}
+use Rattle.units.specs.Ceiling.{somePasses, underCeiling}
+use Rattle.table.specs.declared.Verdict.{Verdict}
+use Rattle.table.specs.declared.Verdict.the-variants.{Accepted}
+use Rattle.table.specs.Verdicts.{verdictAnswer}
+
+-- no number of a list passes C
+abbrev pub Under : List ℕ → Type 0
+Under ns = somePasses ns ≡ false
+
+pub none-under : Under []
+unfolding somePasses
+none-under = refl
+
+neither : (a b : Bool) → (a || b) ≡ false → (a ≡ false) × (b ≡ false)
+neither true b h = let z : _≡_ {A = ℕ} 0 1 = cc in absurd (omega arith)
+neither false b h = (refl, h)
+
+-- two lists, one after the other
+pub parts-under : (ns ms : List ℕ) → Under (ns ++ ms) → Under ns × Under ms
+unfolding somePasses
+parts-under [] ms u = (refl, u)
+parts-under (n ∷ ns) ms u =
+    let f = neither (ltb C n) (somePasses (ns ++ ms)) u in
+    let r = parts-under ns ms (f .1) in
+    (rw (f .0) (r .0), r .1)
+
+pub both-under : (ns ms : List ℕ) → Under ns → Under ms → Under (ns ++ ms)
+unfolding somePasses
+both-under [] ms u v = v
+both-under (n ∷ ns) ms u v =
+    let f = neither (ltb C n) (somePasses ns) u in rw (f .0) (both-under ns ms (f .1) v)
+
+-- what an answer under the ceiling says of its numbers
+pub under-accepted : (ns : List ℕ) → Under ns → accepted tt ≡ underCeiling {A = Unit} ns tt
+unfolding underCeiling
+under-accepted ns u = rw u
+
+pub accepted-under : (ns : List ℕ) (v : Verdict) → verdictAnswer v ≡ underCeiling {A = Unit} ns tt → v ≡ Accepted → Under ns
+unfolding underCeiling
+accepted-under ns v h e = go (somePasses ns) (sym (ap verdictAnswer e) ∙ h)
+  where
+    go : (some : Bool) → _≡_ {A = Answer Unit} (accepted tt) (cond some (refused 16) (accepted tt)) → some ≡ false
+    go true k = let z : _≡_ {A = ℕ} 0 1 = cc in absurd (omega arith)
+    go false k = refl
+
+-- 16 on a part is 16 on the whole
+pub refused-whole :
+    (ns ms : List ℕ) {k : ℕ}
+    → (Under ms → Under ns)
+    → refused k ≡ underCeiling {A = Unit} ns tt
+    → refused 16 ≡ underCeiling {A = Unit} ms tt
+unfolding underCeiling
+refused-whole ns ms {k} part h = go (somePasses ns) (somePasses ms) part h
+  where
+    go :
+        (a b : Bool)
+        → (b ≡ false → a ≡ false)
+        → _≡_ {A = Answer Unit} (refused k) (cond a (refused 16) (accepted tt))
+        → _≡_ {A = Answer Unit} (refused 16) (cond b (refused 16) (accepted tt))
+    go a true p q = refl
+    go true false p q = let e = p refl in let z : _≡_ {A = ℕ} 0 1 = cc in absurd (omega arith)
+    go false false p q = let z : _≡_ {A = ℕ} 0 1 = cc in absurd (omega arith)
