@@ -1,4 +1,4 @@
--- What the network's one loop gives: a step (one rain, lead 0) and each lead of a forecast are cases of it.
+-- What the network's loop gives for any supply of rain; a step is its case of one rain and lead 0.
 use Prim.Native.Nat.{ℕ}
 use mathlib.Core.List.{List}
 use Rattle.method.specs.declared.Figures.{Figures}

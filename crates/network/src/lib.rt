@@ -39,7 +39,7 @@ fn none_gathered() -> [Gathered; 65]
     [none; 65]
 }
 
-// All elements at a step or a lead, one after the other; what each lets out is added to what flows into the next.
+// All elements for a supply of rain, one after the other; what each lets out is added to what flows into the next.
 pub fn advance(plan: Plan, supply: Supply, input: [Input; 64], state: State) -> StateAnswer
     requires { ⌜ PlanFits plan × (SupplyInRange supply × (InputsFit input (plan .table .elements) × FiguresUnder state (plan .table .elements))) ⌝ }
     ensures { λ r. ⌜ Answered r (underCeiling (advanceNumbers (valuesOf (plan .table)) supply (inputsOf (plan .table .elements) input) state) (advanced (valuesOf (plan .table)) supply (inputsOf (plan .table .elements) input) state)) state ⌝ }
