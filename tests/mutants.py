@@ -1,17 +1,23 @@
 #!/usr/bin/env python3
 """Shows that the judge can fail: deliberately wrong programs in the place of the program under test, each of which must be caught.
 
-    python3 tests/mutants.py
+    python3 tests/mutants.py [--libraries]
 
 For each mutant the checks of judge.py that caught it are printed with the count of inputs; the last line is
 "mutants: N tried, F not caught". Each is tried on some dozens of generated.py's quick inputs; on the slow ones (10,000 steps, 100,000
 records) only where these do not catch it, and on the other small ones last.
+
+Wrong libraries in the place of the C interface follow, which the comparison of calls.py must catch; with --libraries these alone.
 """
 import sys
+from array import array
+from dataclasses import replace
 
 from calculator import whole_numbers
 from calculator.program import Program, run
-from calculator.whole_numbers import CEILING, GAP, HIGHEST_STAGE, SCALE, Figures, Refused, Rules, State, number_at
+from calculator.whole_numbers import BASIN, CEILING, GAP, HIGHEST_STAGE, SCALE, Figures, Refused, Rules, State, decode_table, number_at
+from call_cases import Watched, cases
+from calls import Library, compare
 from inputs import SHAPES, inputs, random_for
 from judge import judge
 
@@ -363,9 +369,206 @@ class EmptyInputSilent(Program):
         return super().run(data) if data else b""
 
 
+# ---- Wrong libraries -------------------------------------------------------------------------------------------------------------------
+
+
+class OneNumberMore(Library):
+    """A forecast that writes one number after its answer."""
+
+    def forecast(self, call):
+        reply = super().forecast(call)
+        if reply.count < len(reply.numbers):
+            reply.numbers[reply.count] = 0
+        return reply
+
+
+class WritesThoughRefused(Library):
+    """Lead 0 is written before rule 16 is known."""
+
+    def refused(self, call, number):
+        reply = super().refused(call, number)
+        if call.entry == "forecast" and number == 16:
+            reply.numbers[:4] = array("Q", call.state.figures[0].numbers())
+        return reply
+
+
+class CountOfRoom(Library):
+    """The count of lent numbers in place of those written."""
+
+    def forecast(self, call):
+        return replace(super().forecast(call), count=len(call.lent))
+
+
+class CountThoughRefused(Library):
+    def refused(self, call, number):
+        return replace(super().refused(call, number), count=len(call.lent) if number in (15, 16) else 0)
+
+
+class HostStateChanged(Library):
+    """The step's new state written into the host's own too."""
+
+    def step(self, call):
+        return replace(super().step(call), kept=0)
+
+
+class RoomOneShort(Library):
+    def forecast(self, call):
+        reply = super().forecast(replace(call, lent=(*call.lent, 0)))
+        return replace(reply, numbers=reply.numbers[:-1])
+
+
+class RoomOneMore(Library):
+    def forecast(self, call):
+        reply = super().forecast(call)
+        if reply.count == len(call.lent):
+            raise Refused(15)
+        return reply
+
+
+class RefusedStateMoved(Library):
+    """The step count of a refused step goes up."""
+
+    def refused(self, call, number):
+        reply = super().refused(call, number)
+        if call.entry == "step" and number == 16:
+            reply.numbers[1] += 1
+        return reply
+
+
+class PlacesBeyondCleared(Library):
+    def step(self, call):
+        reply = super().step(call)
+        at = 2 + 7 * call.state.count
+        reply.numbers[at:] = array("Q", [0] * (450 - at))
+        return reply
+
+
+class StartKeepsRains(Library):
+    def start(self, call):
+        reply = super().start(call)
+        reply.numbers[6:9] = array("Q", call.state.rains[0])
+        return reply
+
+
+class StartClearsReachRains(Library):
+    def start(self, call):
+        reply = super().start(call)
+        for place, element in enumerate(decode_table(call.table).elements):
+            if element.kind != BASIN:
+                reply.numbers[6 + 7 * place:9 + 7 * place] = array("Q", (0, 0, 0))
+        return reply
+
+
+class StepMovesReachRains(Library):
+    def step(self, call):
+        reply = super().step(call)
+        for place, element in enumerate(decode_table(call.table).elements):
+            if element.kind != BASIN:
+                reply.numbers[6 + 7 * place:9 + 7 * place] = array("Q", (0, *call.state.rains[place][:2]))
+        return reply
+
+
+class LooksBeyond(Rules):
+    """Rule 8 on one place more than N."""
+
+    def check_state(self, table, state):
+        super().check_state(table, state)
+        if state.count < 64 and max(state.figures[state.count].numbers()) > CEILING:
+            raise Refused(8)
+
+
+class LooksAtReachRains(Rules):
+    def check_state(self, table, state):
+        super().check_state(table, state)
+        if max(max(rains) for rains in state.rains[:state.count]) > 3_000:
+            raise Refused(8)
+
+
+class LooksNotAt(Rules):
+    """Rule 8 without one of the seven numbers of a place."""
+    number = 6
+
+    def check_state(self, table, state):
+        figures = [Figures(*(0 if which == self.number else value for which, value in enumerate(each.numbers()))) for each in state.figures]
+        rains = [tuple(0 if which + 4 == self.number else value for which, value in enumerate(each)) for each in state.rains]
+        super().check_state(table, State(state.count, state.steps, figures, rains))
+
+
+class LooksNotAtLastPlace(Rules):
+    def check_state(self, table, state):
+        figures = [*state.figures[:state.count - 1], Figures(0, 0, 0, 0), *state.figures[state.count:]]
+        super().check_state(table, replace(state, figures=figures))
+
+
+class LowHalves(Rules):
+    """Rule 8 on the low 32 bits of each number."""
+
+    def check_state(self, table, state):
+        figures = [Figures(*(value % 2 ** 32 for value in each.numbers())) for each in state.figures]
+        super().check_state(table, State(state.count % 2 ** 32, state.steps % 2 ** 32, figures, state.rains))
+
+
+class AllThreeRains(Rules):
+    """The sum of all three rains of the state, whatever the step count, divided by c."""
+
+    def lead_rain_inflow(self, element, rains, steps, lead):
+        return super().lead_rain_inflow(element, (sum(rains), 0, 0) if steps == 1 else (rains[0], sum(rains[1:]), 0) if steps == 2 else rains,
+                                        steps, lead)
+
+
+class CeilingOf(Watched):
+    """Rule 16 with another limit for the numbers of one name."""
+
+    def __init__(self, name, limit):
+        self.name, self.limit = name, limit
+
+    def watch(self, name, number):
+        if number > (self.limit if name == self.name else CEILING):
+            raise Refused(16)
+
+
+# The others of rule 16's numbers cannot pass C where rule 8 holds; call_cases.all_at_ceiling brings them as high as they go.
+REACHING_THE_CEILING = ("basin inflow", "reach inflow", "reach inflow margin", "reach inflow variance", "reach inflow variance margin",
+                        "moved margin", "moved variance", "corrected margin")
+
+
+# What is no wrong program by itself: standard input does not reach what these look at.
+NO_PROGRAMS = (Rules, Program, WrongAnswer, Watched, LooksBeyond, LooksAtReachRains, LooksNotAt, LooksNotAtLastPlace, LowHalves, AllThreeRains,
+               CeilingOf)
+
+
+def libraries():
+    for wrong in list(globals().values()):
+        if isinstance(wrong, type) and issubclass(wrong, Library) and wrong is not Library:
+            yield wrong.__name__, wrong()
+    for wrong in (LooksBeyond, LooksAtReachRains, LooksNotAtLastPlace, LowHalves, AllThreeRains):
+        yield wrong.__name__, Library(wrong())
+    for number in range(7):
+        wrong = LooksNotAt()
+        wrong.number = number
+        yield f"LooksNotAt {number}", Library(wrong)
+    for name in REACHING_THE_CEILING:
+        yield f"CeilingOf {name}, C refused", Library(CeilingOf(name, CEILING - 1))
+        yield f"CeilingOf {name}, C + 1 taken", Library(CeilingOf(name, CEILING + 1))
+
+
+def caught_libraries():
+    """By name of a wrong library: the first case of calls.py whose comparison catches it, and how many were tried."""
+    right, built = Library(), []
+    for number, case in enumerate(cases()):
+        calls = list(case.build(random_for(SEED, number)))
+        built.append((replace(case, exact=False), calls, [right.reply(call) for call in calls]))
+    for name, wrong in libraries():
+        for used, (case, calls, expected) in enumerate(built, 1):
+            found, _ = compare(case, calls, expected, [wrong.reply(call) for call in calls])
+            if found:
+                break
+        yield name, case.name if found else "NOT CAUGHT", used
+
+
 def mutants():
     for wrong in list(globals().values()):
-        if isinstance(wrong, type) and issubclass(wrong, (Rules, Program)) and wrong not in (Rules, Program, WrongAnswer):
+        if isinstance(wrong, type) and issubclass(wrong, (Rules, Program)) and wrong not in NO_PROGRAMS:
             yield wrong.__name__, (wrong().run if issubclass(wrong, Program) else Program(wrong()).run)
 
 
@@ -386,7 +589,8 @@ def chosen_inputs():
     return dozens, slow, others
 
 
-def main():
+def try_programs():
+    """Prints a line for each wrong program; gives how many were tried and how many not caught."""
     groups, expected = chosen_inputs(), {}
     tried = missed = 0
     for name, wrong in mutants():
@@ -410,6 +614,14 @@ def main():
         missed += not caught
         words = ", ".join(f"{check} {count}" for check, count in sorted(caught.items())) if caught else "NOT CAUGHT"
         print(f"{name}: {words} (of {used} inputs)")
+    return tried, missed
+
+
+def main():
+    tried, missed = (0, 0) if "--libraries" in sys.argv[1:] else try_programs()
+    for name, caught, used in caught_libraries():
+        tried, missed = tried + 1, missed + (caught == "NOT CAUGHT")
+        print(f"library {name}: {caught} (case {used})")
     print(f"mutants: {tried} tried, {missed} not caught")
     return 1 if missed else 0
 

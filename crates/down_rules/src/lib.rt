@@ -4,15 +4,15 @@ ghost use Prim.Native.Nat.{_≤_};
 ghost use Rattle.fields.specs.Ranges.{allBelow};
 ghost use Rattle.elements.specs.Elements.{elementAt};
 ghost use Rattle.elements.specs.Rules.{downFits};
-use elements::element_at;
+use elements::down_at;
+use elements::kind_at;
 
 // Rule 6 on element i of n, counted from 0.
 fn down_fits(table: &[u8], n: usize, i: usize) -> bool
     requires { ⌜ (n ≤ 64) × (i ≤ 64) ⌝ }
     ensures { λ r. ⌜ r ≡ downFits n (elementAt (now (table .entry))) i ⌝ }
 {
-    let e = element_at(table, i);
-    let down = e.down;
+    let down = down_at(table, i);
     if down == 0 {
         return true;
     }
@@ -22,8 +22,8 @@ fn down_fits(table: &[u8], n: usize, i: usize) -> bool
     if n < down {
         return false;
     }
-    let below = element_at(table, down - 1);
-    below.kind != 1
+    let kind = kind_at(table, down - 1);
+    kind != 1
 }
 
 // Rule 6: the downs of all elements.

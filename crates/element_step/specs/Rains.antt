@@ -8,7 +8,3 @@ use Rattle.state.specs.declared.Rains.{Rains}
 unfoldable pub rainsAfter : ℕ → ℕ → Rains → Rains
 rainsAfter kind rain before =
     cond (eqb kind 1) (record { first = rain; second = before .first; third = before .second }) before
-
--- after a step or a lead: a forecast keeps the state
-unfoldable pub rainsAt : ℕ → ℕ → ℕ → Rains → Rains
-rainsAt lead kind rain before = cond (eqb lead 0) (rainsAfter kind rain before) before

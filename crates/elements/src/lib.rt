@@ -42,6 +42,22 @@ pub fn element_at(table: &[u8], i: usize) -> Element
     }
 }
 
+// The kind of element i.
+pub fn kind_at(table: &[u8], i: usize) -> u64
+    requires { ⌜ i ≤ 255 ⌝ }
+    ensures { λ r. ⌜ r ≡ elementAt (now (table .entry)) i .kind ⌝ }
+{
+    byte(table, 26 * i + 10)
+}
+
+// The number of the element that element i drains into.
+pub fn down_at(table: &[u8], i: usize) -> usize
+    requires { ⌜ i ≤ 255 ⌝ }
+    ensures { λ r. ⌜ r ≡ elementAt (now (table .entry)) i .down ⌝ }
+{
+    byte(table, 26 * i + 10 + 1) as usize
+}
+
 // Places that no element uses.
 pub fn unused() -> [Element; 64]
     ensures { λ r. ⌜ r ≡ replicate 64 noElement ⌝ }

@@ -46,14 +46,13 @@ pub fn step_with(plan: Plan, bytes: &[u8], state: State) -> StateAnswer
     requires { ⌜ PlanFits plan ⌝ }
     ensures { λ r. ⌜ Answered r (stepOnAnswer (valuesOf (plan .table)) (now (bytes .entry)) state) state ⌝ }
 {
-    let table = plan.table;
-    if !state_rules::state_fits(table, state) {
+    if !state_rules::state_fits(plan.table, state) {
         return refused(Refusal::StateRange, state);
     }
     if !state::steps_left(state) {
         return refused(Refusal::StepLimit, state);
     }
-    let read = record_reader::read(bytes, table, plan.basins);
+    let read = record_reader::read(bytes, plan.table, plan.basins);
     let verdict = read.verdict;
     let input = read.input;
     match verdict {
@@ -84,6 +83,17 @@ pub fn forecast_with(plan: Plan, state: State, out: &mut [u64]) -> ForecastAnswe
         return ForecastAnswer::Refused(Refusal::StateRange);
     }
     leads::forecast_on(plan, state, out)
+}
+
+// A forecast on a plan in space that may be spoiled, for a caller that lends its own: rules 8 and 16.
+pub fn forecast_in(plan: Plan, state: State, space: &mut [u64]) -> ForecastAnswer
+    requires { ⌜ PlanFits plan × (length (now space) ≡ 3328) ⌝ }
+    ensures { λ r. ⌜ Lent r (now (space .exit)) (forecastOnAnswer (valuesOf (plan .table)) state 3328) (now (space .exit)) ⌝ }
+{
+    if !state_rules::state_fits(plan.table, state) {
+        return ForecastAnswer::Refused(Refusal::StateRange);
+    }
+    leads::forecast_in(plan, state, space)
 }
 
 // A forecast on the bytes of a table into lent space: rules 1 to 8, 15 and 16.

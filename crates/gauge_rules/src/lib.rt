@@ -6,6 +6,7 @@ ghost use Rattle.gauges.specs.Gauges.{gaugeAt};
 ghost use Rattle.gauges.specs.Rules.{elementBefore, gaugeFits};
 use curve_rules::curve_fits;
 use fields::range::in_range;
+use gauges::element_of;
 use gauges::gauge_at;
 use units::Variance;
 
@@ -17,8 +18,7 @@ fn element_before(table: &[u8], n: usize, g: usize) -> usize
     if g == 0 {
         return 0;
     }
-    let gauge = gauge_at(table, n, g - 1);
-    gauge.element
+    element_of(table, n, g - 1)
 }
 
 // Rule 7 on gauge g, counted from 0.

@@ -66,6 +66,14 @@ pub fn gauge_at(table: &[u8], n: usize, g: usize) -> Gauge
     }
 }
 
+// The number of the element that gauge g stands at.
+pub fn element_of(table: &[u8], n: usize, g: usize) -> usize
+    requires { ⌜ (n ≤ 64) × (g ≤ 64) ⌝ }
+    ensures { λ r. ⌜ r ≡ gaugeAt (now (table .entry)) n g .element ⌝ }
+{
+    byte(table, 26 * n + 46 * g + 10) as usize
+}
+
 // Places that no gauge uses.
 pub fn unused() -> [Gauge; 16]
     ensures { λ r. ⌜ r ≡ replicate 16 noGauge ⌝ }

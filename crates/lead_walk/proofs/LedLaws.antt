@@ -15,15 +15,16 @@ use Rattle.method.specs.Figures.{FiguresFit}
 use Rattle.method.specs.Inflow.{joinedInflow}
 use Rattle.answer_space.specs.Places.{figuresAt, put}
 use Rattle.answer_space.proofs.PlacesLaws.{put-here, put-other, same-lead, same-element}
-use Rattle.lead_walk.specs.declared.Course.{Course}
-use Rattle.lead_walk.specs.Course.{courseStep, courseNumbers, course, courseAll}
+use Rattle.one_lead.specs.declared.Course.{Course}
+use Rattle.one_lead.specs.Course.{courseStep, courseNumbers}
+use Rattle.lead_walk.specs.Course.{course, courseAll}
 use Rattle.lead_walk.specs.Worked.{drainedAt, joinedAt, Led}
 use Rattle.lead_walk.proofs.UnderLaws.{Under, none-under, parts-under, both-under}
 
 -- the numbers of each lead, and of all
 module _ (c : Course) (first : Figures) (above : ℕ → Figures) where
   abbrev leadPart : ℕ → List ℕ
-  leadPart l = courseNumbers c (suc l) (above l) (course c first above l)
+  leadPart l = courseNumbers c (c .lead + l) (above l) (course c first above l)
 
   pub course-part : (l n : ℕ) → l < n → Under (courseAll c first above n) → Under (leadPart l)
   unfolding courseAll
@@ -69,32 +70,35 @@ module _ (c : Course) (first : Figures) (i w : ℕ) (answer₀ sums₀ : List �
 
   -- one lead more, with the figures x
   module _ (m : ℕ) (answer sums : List ℕ) (h : Led c first i w m answer₀ answer sums₀ sums) (short : m + 1 < w) where
-    above-is : figuresAt sums ((i + 1) * w + m) ≡ drainedAt sums₀ w i m
+    row : i * w + w + m ≡ (i + 1) * w + m
+    row = omega arith
+
+    above-is : figuresAt sums (i * w + w + m) ≡ drainedAt sums₀ w i m
     unfolding drainedAt
-    above-is = h .rest (i + 1) m (omega arith) (omega arith)
+    above-is = ap (figuresAt sums) row ∙ h .rest (i + 1) m (omega arith) (omega arith)
 
     -- what the lead works out is that of the course
-    step-is : courseStep c (m + 1) (figuresAt sums ((i + 1) * w + m)) (figuresAt answer (i * w + m)) ≡ along (suc m)
+    step-is : courseStep c (c .lead + m) (figuresAt sums (i * w + w + m)) (figuresAt answer (i * w + m)) ≡ along (suc m)
     unfolding course
-    step-is = rw (above-is, h .here m (omega arith), add-one)
+    step-is = rw (above-is, h .here m (omega arith))
 
     numbers-are :
-        courseNumbers c (m + 1) (figuresAt sums ((i + 1) * w + m)) (figuresAt answer (i * w + m))
-        ≡ courseNumbers c (suc m) (drainedAt sums₀ w i m) (along m)
-    numbers-are = rw (above-is, h .here m (omega arith), add-one)
+        courseNumbers c (c .lead + m) (figuresAt sums (i * w + w + m)) (figuresAt answer (i * w + m))
+        ≡ courseNumbers c (c .lead + m) (drainedAt sums₀ w i m) (along m)
+    numbers-are = rw (above-is, h .here m (omega arith))
 
     -- where no number of the element passes, none of this lead does
     pub part-under :
         (n : ℕ)
         → m < n
         → Under (numbers n)
-        → Under (courseNumbers c (m + 1) (figuresAt sums ((i + 1) * w + m)) (figuresAt answer (i * w + m)))
+        → Under (courseNumbers c (c .lead + m) (figuresAt sums (i * w + w + m)) (figuresAt answer (i * w + m)))
     part-under n l u = rw numbers-are (course-part c first (drainedAt sums₀ w i) m n l u)
 
     module _
-        (x : Figures) (is : x ≡ courseStep c (m + 1) (figuresAt sums ((i + 1) * w + m)) (figuresAt answer (i * w + m)))
+        (x : Figures) (is : x ≡ courseStep c (c .lead + m) (figuresAt sums (i * w + w + m)) (figuresAt answer (i * w + m)))
         (fits : FiguresFit x)
-        (u : Under (courseNumbers c (m + 1) (figuresAt sums ((i + 1) * w + m)) (figuresAt answer (i * w + m))))
+        (u : Under (courseNumbers c (c .lead + m) (figuresAt sums (i * w + w + m)) (figuresAt answer (i * w + m))))
         (room : 4 * (i * w + m + 1) + 3 < length answer) (space : 4 * (c .element .down * w + m) + 3 < length sums) where
       abbrev answer⁺ : List ℕ
       answer⁺ = put answer (i * w + m + 1) x

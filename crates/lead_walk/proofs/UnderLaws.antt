@@ -41,9 +41,9 @@ both-under (n ∷ ns) ms u v =
     let f = neither (ltb C n) (somePasses ns) u in rw (f .0) (both-under ns ms (f .1) v)
 
 -- what an answer under the ceiling says of its numbers
-pub under-accepted : (ns : List ℕ) → Under ns → accepted tt ≡ underCeiling {A = Unit} ns tt
+pub under-accepted : {A : Type 0} (a : A) (ns : List ℕ) → Under ns → accepted a ≡ underCeiling ns a
 unfolding underCeiling
-under-accepted ns u = rw u
+under-accepted a ns u = rw u
 
 pub accepted-under : (ns : List ℕ) (v : Verdict) → verdictAnswer v ≡ underCeiling {A = Unit} ns tt → v ≡ Accepted → Under ns
 unfolding underCeiling
@@ -55,18 +55,18 @@ accepted-under ns v h e = go (somePasses ns) (sym (ap verdictAnswer e) ∙ h)
 
 -- 16 on a part is 16 on the whole
 pub refused-whole :
-    (ns ms : List ℕ) {k : ℕ}
+    {A : Type 0} (a : A) (ns ms : List ℕ) {k : ℕ}
     → (Under ms → Under ns)
     → refused k ≡ underCeiling {A = Unit} ns tt
-    → refused 16 ≡ underCeiling {A = Unit} ms tt
+    → refused 16 ≡ underCeiling ms a
 unfolding underCeiling
-refused-whole ns ms {k} part h = go (somePasses ns) (somePasses ms) part h
+refused-whole a ns ms {k} part h = go (somePasses ns) (somePasses ms) part h
   where
     go :
-        (a b : Bool)
-        → (b ≡ false → a ≡ false)
-        → _≡_ {A = Answer Unit} (refused k) (cond a (refused 16) (accepted tt))
-        → _≡_ {A = Answer Unit} (refused 16) (cond b (refused 16) (accepted tt))
-    go a true p q = refl
+        (n m : Bool)
+        → (m ≡ false → n ≡ false)
+        → _≡_ {A = Answer Unit} (refused k) (cond n (refused 16) (accepted tt))
+        → refused 16 ≡ cond m (refused 16) (accepted a)
+    go n true p q = refl
     go true false p q = let e = p refl in let z : _≡_ {A = ℕ} 0 1 = cc in absurd (omega arith)
     go false false p q = let z : _≡_ {A = ℕ} 0 1 = cc in absurd (omega arith)

@@ -5,7 +5,6 @@ use mathlib.Core.List.{List}
 use mathlib.Core.Path.{_≡_}
 use lib.Dec.{eqb}
 use lib.ListN.{length}
-use Rattle.units.specs.Units.{S}
 use Rattle.units.specs.Ceiling.{somePasses, underCeiling}
 use Rattle.method.specs.declared.Figures.{Figures}
 use Rattle.method.specs.Figures.{FiguresFit}
@@ -13,45 +12,10 @@ use Rattle.method.specs.Inflow.{joinedInflow}
 use Rattle.table.specs.declared.Verdict.{Verdict}
 use Rattle.table.specs.declared.Verdict.the-variants.{Accepted}
 use Rattle.table.specs.Verdicts.{verdictAnswer}
-use Rattle.element_step.specs.Bounds.{ElementInRange}
-use Rattle.answer_space.specs.Places.{figuresAt, put, FiguresBelow}
-use Rattle.lead_walk.specs.declared.Course.{Course}
-use Rattle.lead_walk.specs.declared.Lead.{Lead}
-use Rattle.lead_walk.specs.Course.{courseStep, courseNumbers, course, courseAll}
-
-pub record CourseInRange (c : Course) : Type 0 where
-  pub element : ElementInRange (c .element)
-  pub weight : c .weight ≤ S
-  pub rain : c .rain ≤ 9000
-  pub count : c .count ≤ 3
-
--- ---- one lead
-
-pub record LeadReady (c : Course) (lead : Lead) (answer sums : List ℕ) : Type 0 where
-  pub inRange : CourseInRange c
-  pub number : lead .number ≤ 12
-  pub old : 4 * lead .old + 3 < length answer
-  pub new : 4 * lead .new + 3 < length answer
-  pub above : 4 * lead .above + 3 < length sums
-  pub below : 4 * lead .below + 3 < length sums
-  pub figures : FiguresFit (figuresAt answer (lead .old))
-  pub small : FiguresBelow (figuresAt sums (lead .below)) 256000000000
-
--- the figures x of a lead are put and added
-pub record LeadKept (x : Figures) (lead : Lead) (answer₀ answer sums₀ sums : List ℕ) : Type 0 where
-  pub fits : FiguresFit x
-  pub written : answer ≡ put answer₀ (lead .new) x
-  pub added : sums ≡ put sums₀ (lead .below) (joinedInflow (figuresAt sums₀ (lead .below)) x)
-
-pub record LeadWorked (r : Verdict) (c : Course) (lead : Lead) (answer₀ answer sums₀ sums : List ℕ) : Type 0 where
-  pub verdict :
-      verdictAnswer r
-      ≡ underCeiling (courseNumbers c (lead .number) (figuresAt sums₀ (lead .above)) (figuresAt answer₀ (lead .old))) tt
-  pub kept :
-      r ≡ Accepted
-      → LeadKept (courseStep c (lead .number) (figuresAt sums₀ (lead .above)) (figuresAt answer₀ (lead .old))) lead answer₀ answer sums₀ sums
-
--- ---- all leads of an element
+use Rattle.answer_space.specs.Places.{figuresAt, FiguresBelow}
+use Rattle.one_lead.specs.declared.Course.{Course}
+use Rattle.one_lead.specs.Worked.{CourseInRange}
+use Rattle.lead_walk.specs.Course.{course, courseAll}
 
 -- the sums of the first leads, at w leads an element, are small
 pub record SumsBelow (sums : List ℕ) (w leads most : ℕ) : Type 0 where
@@ -60,11 +24,10 @@ pub record SumsBelow (sums : List ℕ) (w leads most : ℕ) : Type 0 where
 pub record LeadsReady (c : Course) (first : Figures) (i leads : ℕ) (answer sums : List ℕ) : Type 0 where
   pub inRange : CourseInRange c
   pub fits : FiguresFit first
-  pub few : i < 64
   pub short : leads ≤ 12
-  pub down : c .element .down < 65
-  pub answerRoom : length answer ≡ 3328
-  pub sumsRoom : length sums ≡ 3380
+  pub own : 4 * (i * (leads + 1) + leads) + 3 < length answer
+  pub above : 4 * (i * (leads + 1) + (leads + 1) + leads) + 3 < length sums
+  pub below : 4 * (c .element .down * (leads + 1) + leads) + 3 < length sums
   pub small : SumsBelow sums (leads + 1) leads 256000000000
 
 -- what drains into element i at each lead, at w leads an element

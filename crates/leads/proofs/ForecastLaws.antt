@@ -1,14 +1,14 @@
 -- The answer of a forecast: the leads that were worked out, and rule 15 and 16.
 use Prim.{Unit}
-use Prim.Native.Nat.{ℕ, _+_, _*_, _≤_, _<_}
+use Prim.Native.Nat.{ℕ, suc, _+_, _*_, _≤_, _<_}
 use mathlib.Core.Bool.{true}
 use mathlib.Core.List.{List, _++_}
 use mathlib.Core.Path.{_≡_, refl, sym, ap, subst, _∙_}
 use borrow.Author.Tests.{le-leb, lt-leb}
 use native.Mathlib.Nat.{mul-le-mul}
 use native.Mathlib.Omega.{arith}
-use lib.ListN.{length, getD, take, drop}
-use lib.Seq.{paste, length-take-le}
+use lib.ListN.{length, getD, take, drop, take-append-drop}
+use lib.Seq.{paste, paste-zero, length-take-le}
 use Rattle.refusal.specs.Answers.{accepted, refused}
 use Rattle.refusal.specs.Refusals.{number}
 use Rattle.refusal.specs.declared.Refusal.{Refusal}
@@ -17,6 +17,8 @@ use Rattle.refusal.proofs.RuleLaws.{not-both}
 use Rattle.units.specs.Ceiling.{underCeiling}
 use Rattle.units.proofs.CeilingLaws.{same-accepted, same-refused-number}
 use Rattle.method.specs.declared.Figures.{Figures}
+use Rattle.method.specs.Inflow.{meanRainInflow, forecastInflow}
+use Rattle.inflow.specs.Basin.{basinInflow}
 use Rattle.table.specs.declared.Table.{Table}
 use Rattle.table.specs.declared.Verdict.{Verdict}
 use Rattle.table.specs.declared.Verdict.the-variants.{Accepted, Refused}
@@ -27,26 +29,29 @@ use Rattle.table.specs.InUse.{valuesOf}
 use Rattle.table.proofs.HeldLaws.{element-held}
 use Rattle.elements.specs.declared.Element.{Element}
 use Rattle.elements.specs.Elements.{noElement}
+use Rattle.record.specs.declared.Observation.the-variants.{Nothing}
 use Rattle.plan.specs.Plans.{WeightsHeld}
 use Rattle.state.specs.declared.State.{State}
 use Rattle.state.specs.States.{noPlace, placeOf}
 use Rattle.state.specs.Rules.{stateFits}
 use Rattle.network.proofs.StateFitsLaws.{places-under, rains-under}
-use Rattle.network.specs.Step.{figuresIn}
-use Rattle.network.specs.Forecast.{rainCount, rainSum, leadFigures, leadNumbers}
+use Rattle.network.specs.Step.{noObservation, figuresIn}
+use Rattle.network.specs.Forecast.{rainCount, rainSum, forecastOwn, leadFigures, leadNumbers}
+use Rattle.network.proofs.CoursesLaws.{course-under}
 use Rattle.leads.specs.declared.ForecastAnswer.the-variants as of-forecast
 use Rattle.leads.specs.Answer.{forecastFigures, spaceFits, leadsAnswer}
 use Rattle.leads.specs.Lent.{layout, countWritten, lentAfter, Lent}
 use Rattle.rain_sums.specs.Sums.{StateUnder, sumOf}
 use Rattle.rain_sums.proofs.RainLaws.{sum-is}
 use Rattle.answer_space.specs.Places.{LeadsHeld}
-use Rattle.leads.specs.Held.{LeadsWorked}
-use Rattle.lead_walk.specs.declared.Course.{Course}
+use Rattle.leads.specs.Held.{LeadsWorked, writtenBy}
+use Rattle.one_lead.specs.declared.Course.{Course}
+use Rattle.one_lead.specs.Course.{courseOwn}
 use Rattle.lead_walk.specs.Course.{courseAll}
 use Rattle.lead_walk.specs.Worked.{drainedAt}
 use Rattle.lead_walk.proofs.UnderLaws.{Under, under-accepted, refused-whole}
 use Rattle.leads.proofs.LayoutLaws.{answer-laid}
-use Rattle.leads.proofs.LeadsLaws.{lead-whole, Walked, CourseOf, course-under}
+use Rattle.leads.proofs.LeadsLaws.{figures-again, LeadsWalked, LeadsCourse, lead-part, lead-whole}
 
 -- what rule 8 gives
 pub state-under : (table : Table) (s : State) → stateFits (valuesOf table) s ≡ true → StateUnder table s
@@ -65,42 +70,62 @@ small-count count steps e = omega (arith, e)
 
 -- ---- one element
 
+-- a basin's own inflow at each lead
+own-held :
+    (c : Course) (t : TableValues) (s : State) (i count : ℕ)
+    → c .element ≡ t .element i
+    → c .lead ≡ 1
+    → count ≡ rainCount (s .steps)
+    → c .brought ≡ meanRainInflow (rainSum (placeOf s i .rains) count) count (c .element .area) (c .element .runoff)
+    → (l : ℕ)
+    → courseOwn c (c .lead + l) ≡ forecastOwn t s (suc l) i
+unfolding courseOwn basinInflow forecastOwn forecastInflow
+own-held c t s i count e one few brought l =
+    let n : c .lead + l ≡ suc l = omega (arith, one) in rw (n, brought, few, e)
+
 -- what the code takes of element i
 pub course-of :
-    (table : Table) (weights : List ℕ) (s : State) (i rain count : ℕ)
+    (table : Table) (weights : List ℕ) (s : State) (i rain count brought : ℕ)
     → i < table .elements
     → WeightsHeld weights table (table .elements)
     → count ≡ rainCount (s .steps)
     → rain ≡ sumOf (getD (table .element) i noElement .kind) (getD (s .element) i noPlace .rains) count
-    → CourseOf (valuesOf table) s (record { element = getD (table .element) i noElement; weight = getD weights i 0; rain = rain; count = count }) i
-unfolding placeOf
-course-of table weights s i rain count l w c r =
+    → brought ≡ meanRainInflow rain count (getD (table .element) i noElement .area) (getD (table .element) i noElement .runoff)
+    → (leads : ℕ)
+    → LeadsCourse (valuesOf table) s
+    (record { element = getD (table .element) i noElement; weight = getD weights i 0; brought = brought; lead = 1; observation = Nothing }) i leads
+unfolding placeOf noObservation
+course-of table weights s i rain count brought l w c r b leads =
     record {
       element = sym (element-held table i l);
       weight = w .at i l;
-      rain = λ k.
-          sum-is _ (getD (s .element) i noPlace .rains) count rain r (ap (λ (e : Element). e .kind) (sym (element-held table i l)) ∙ k)
-          ∙ ap (rainSum (getD (s .element) i noPlace .rains)) c;
-      count = c;
+      observation = refl;
+      inflow = λ lead m k.
+          own-held _ _ _ _ count (sym (element-held table i l)) refl c
+          (b
+          ∙ ap (λ (sum : ℕ). meanRainInflow sum count (getD (table .element) i noElement .area) (getD (table .element) i noElement .runoff))
+          (sum-is _ (getD (s .element) i noPlace .rains) count rain r (ap (λ (e : Element). e .kind) (sym (element-held table i l)) ∙ k)))
+          lead;
     }
 
-pub first-held : (s : State) (i : ℕ) → getD (s .element) i noPlace .figures ≡ figuresIn s i
-unfolding figuresIn placeOf
-first-held s i = refl
+pub first-held : (t : TableValues) (s : State) (i : ℕ) → getD (s .element) i noPlace .figures ≡ leadFigures t s 0 i
+unfolding leadFigures figuresIn placeOf
+first-held t s i = refl
 
 -- where no number of the forecast passes, none of element i does
 pub element-under :
     (table : Table) (s : State) (c : Course) (i : ℕ)
-    → CourseOf (valuesOf table) s c i
+    → LeadsCourse (valuesOf table) s c i (table .leads)
     → (first : Figures)
-    → first ≡ figuresIn s i
+    → first ≡ leadFigures (valuesOf table) s 0 i
     → (answer sums : List ℕ)
-    → Walked (valuesOf table) s (table .leads + 1) (table .leads) i answer sums
+    → LeadsWalked (valuesOf table) s (table .leads + 1) (table .leads) i answer sums
     → i < table .elements
     → Under (leadNumbers (valuesOf table) s (table .leads))
     → Under (courseAll c first (drainedAt sums (table .leads + 1) i) (table .leads))
 unfolding valuesOf
-element-under table s c i of first is answer sums h l u = course-under (valuesOf table) s c i of first is (table .leads + 1) (table .leads) answer sums h l u
+element-under table s c i of first is answer sums h l u =
+    course-under _ _ _ _ c i _ of (figures-again (valuesOf table) s) first is _ _ _ h (table .elements) l (λ k m. lead-part (valuesOf table) s k (table .leads) m u)
 
 -- ---- the leads that the answer holds
 
@@ -108,14 +133,14 @@ module _ (table : Table) (s : State) where
   -- all elements are worked out
   pub worked-accepted :
       (answer sums : List ℕ) (i : ℕ)
-      → Walked (valuesOf table) s (table .leads + 1) (table .leads) i answer sums
+      → LeadsWalked (valuesOf table) s (table .leads + 1) (table .leads) i answer sums
       → i ≡ table .elements
       → LeadsWorked Accepted answer (valuesOf table) s
   unfolding valuesOf
   worked-accepted answer sums i h e =
-      let g = subst (λ (n : ℕ). Walked (valuesOf table) s (table .leads + 1) (table .leads) n answer sums) e h in
+      let g = subst (λ (n : ℕ). LeadsWalked (valuesOf table) s (table .leads + 1) (table .leads) n answer sums) e h in
       record {
-        verdict = under-accepted _ (lead-whole (valuesOf table) s (table .leads) (g .under));
+        verdict = under-accepted tt _ (lead-whole (valuesOf table) s (table .leads) (g .under));
         held = λ v. g .held;
       }
 
@@ -129,7 +154,7 @@ module _ (table : Table) (s : State) where
   unfolding valuesOf
   worked-refused answer numbers v part h e =
       record {
-        verdict = refused-whole numbers (leadNumbers (valuesOf table) s (table .leads)) part (sym (ap verdictAnswer e) ∙ h);
+        verdict = refused-whole tt numbers (leadNumbers (valuesOf table) s (table .leads)) part (sym (ap verdictAnswer e) ∙ h);
         held = λ a. absurd (not-both (ap verdictAnswer a) refl);
       }
 
@@ -196,3 +221,52 @@ module _ (t : TableValues) (s : State) (out : List ℕ) where
           let a : leadsAnswer t s (length out) ≡ accepted (forecastFigures t s) =
           kept ∙ same-accepted tt (forecastFigures t s) _ (sym (ap verdictAnswer e) ∙ h .verdict) .1 in
           rw a (record { count = ap accepted (sym (counted (h .held e))); numbers = lent (h .held e) })
+
+-- ---- an answer in space that may be spoiled
+
+paste-itself : (l : List ℕ) (n : ℕ) → paste l 0 l n ≡ l
+paste-itself l n =
+    let z : 0 + n ≡ n = omega arith in
+    ap (λ (k : ℕ). take n l ++ drop k l) z ∙ take-append-drop n l
+
+module _ (t : TableValues) (s : State) (b : TableBounds t) (answer : List ℕ) (full : length answer ≡ 3328) where
+  enough : 4 * t .elements * (t .leads + 1) ≤ length answer
+  enough =
+      let few : t .leads + 1 ≤ 13 = omega (arith, b .leadsMost) in
+      omega (arith, full, mul-le-mul (b .elementsMost) few)
+
+  pub spoiled-refused :
+      (v : Verdict) {j : Refusal}
+      → LeadsWorked v answer t s
+      → v ≡ Refused j
+      → Lent (of-forecast.Refused j) answer (leadsAnswer t s 3328) answer
+  spoiled-refused v h e = rw (← full) (leads-refused t s answer enough answer v h e)
+
+  pub spoiled-accepted :
+      (v : Verdict)
+      → LeadsWorked v answer t s
+      → v ≡ Accepted
+      → Lent (of-forecast.Accepted (4 * t .elements * (t .leads + 1))) answer (leadsAnswer t s 3328) answer
+  spoiled-accepted v h e =
+      let l = leads-accepted t s answer enough b answer full v h e in
+      rw (← full) (subst (λ (x : List ℕ). Lent (of-forecast.Accepted (4 * t .elements * (t .leads + 1))) x (leadsAnswer t s (length answer)) answer) (paste-itself answer (4 * t .elements * (t .leads + 1))) l)
+
+-- ---- the numbers written
+
+module _ (v : Verdict) (needed written : ℕ) (h : written ≡ writtenBy v needed) where
+  pub written-most : written ≤ needed
+  unfolding writtenBy
+  written-most = rw h (most v)
+    where
+      most : (x : Verdict) → writtenBy x needed ≤ needed
+      most Accepted = omega arith
+      most (Refused r) = omega arith
+
+  pub all-written : v ≡ Accepted → written ≡ needed
+  unfolding writtenBy
+  all-written e = h ∙ ap (λ (x : Verdict). writtenBy x needed) e
+
+  pub none-written : {j : Refusal} (out answer : List ℕ) → v ≡ Refused j → paste out 0 answer written ≡ out
+  unfolding writtenBy
+  none-written out answer e =
+      ap (paste out 0 answer) (h ∙ ap (λ (x : Verdict). writtenBy x needed) e) ∙ sym (paste-zero out 0 answer)

@@ -1,5 +1,6 @@
 ghost use mathlib.Core.Path.{_≡_};
 ghost use mathlib.Core.Bool.{true};
+ghost use Prim.Native.Nat.{_+_, _*_, _≤_};
 ghost use lib.ListN.{length, replicate};
 ghost use Rattle.table.specs.InUse.{valuesOf};
 ghost use Rattle.state.specs.Rules.{stateFits};
@@ -8,13 +9,15 @@ ghost use Rattle.network.specs.Forecast.{rainCount};
 ghost use Rattle.rain_sums.specs.Sums.{StateUnder};
 ghost use Rattle.leads.specs.Answer.{leadsAnswer};
 ghost use Rattle.leads.specs.Lent.{Lent};
-ghost use Rattle.leads.specs.Held.{LeadsWorked};
+ghost use Rattle.leads.specs.Held.{LeadsWorked, writtenBy};
 use answer_space::copy_numbers;
-use lead_walk::Course;
+use inflow::mean_rain_inflow;
 use lead_walk::work_element;
+use one_lead::Course;
 use plan::Plan;
 use rain_sums::rain_count;
 use rain_sums::sum_of;
+use record::Observation;
 use refusal::Refusal;
 use state::State;
 use table::Verdict;
@@ -38,11 +41,13 @@ fn work_leads(plan: Plan, count: u64, state: State, answer: &mut [u64], sums: &m
         let element = table.element[i];
         let place = state.element[i];
         let rain = sum_of(element.kind, place.rains, count);
+        let brought = mean_rain_inflow(rain, count, element.area, element.runoff);
         let course = Course {
             element,
             weight: weight[i],
-            rain,
-            count,
+            brought,
+            lead: 1,
+            observation: Observation::Nothing,
         };
         let Verdict::Accepted = work_element(
             course,
@@ -58,25 +63,62 @@ fn work_leads(plan: Plan, count: u64, state: State, answer: &mut [u64], sums: &m
     Verdict::Accepted
 }
 
+// The leads from a state that rule 8 accepts, worked out in space that may be spoiled.
+fn work_out(plan: Plan, state: State, answer: &mut [u64]) -> Verdict
+    requires { ⌜ PlanFits plan × ((stateFits (valuesOf (plan .table)) state ≡ true) × (length (now answer) ≡ 3328)) ⌝ }
+    ensures { λ r. ⌜ LeadsWorked r (now (answer .exit)) (valuesOf (plan .table)) state ⌝ }
+{
+    let count = rain_count(state.steps);
+    let mut sums = [0u64; 3380];
+    work_leads(plan, count, state, &mut *answer, &mut sums)
+}
+
+// How many numbers the answer has: four for each element at lead 0 and at each lead.
+fn answer_numbers(elements: usize, leads: usize) -> usize
+    requires { ⌜ (elements ≤ 64) × (leads ≤ 12) ⌝ }
+    ensures { λ r. ⌜ (r ≡ 4 * elements * (leads + 1)) × (r ≤ 3328) ⌝ }
+{
+    4 * elements * (leads + 1)
+}
+
+// A forecast from a state that rule 8 accepts in space that may be spoiled: what it holds where the forecast is refused is left open.
+pub fn forecast_in(plan: Plan, state: State, space: &mut [u64]) -> ForecastAnswer
+    requires { ⌜ PlanFits plan × ((stateFits (valuesOf (plan .table)) state ≡ true) × (length (now space) ≡ 3328)) ⌝ }
+    ensures { λ r. ⌜ Lent r (now (space .exit)) (leadsAnswer (valuesOf (plan .table)) state 3328) (now (space .exit)) ⌝ }
+{
+    let needed = answer_numbers(plan.table.elements, plan.table.leads);
+    let verdict = work_out(plan, state, &mut *space);
+    match verdict {
+        Verdict::Accepted => ForecastAnswer::Accepted(needed),
+        Verdict::Refused(refusal) => ForecastAnswer::Refused(refusal),
+    }
+}
+
+// How many numbers are written: none where the leads are refused.
+fn written_by(verdict: Verdict, needed: usize) -> usize
+    ensures { λ r. ⌜ r ≡ writtenBy verdict needed ⌝ }
+{
+    match verdict {
+        Verdict::Accepted => needed,
+        Verdict::Refused(_) => 0,
+    }
+}
+
 // A forecast from a state that rule 8 accepts: all is worked out before a number is written.
 pub fn forecast_on(plan: Plan, state: State, out: &mut [u64]) -> ForecastAnswer
     requires { ⌜ PlanFits plan × (stateFits (valuesOf (plan .table)) state ≡ true) ⌝ }
     ensures { λ r. ⌜ Lent r (now (out .exit)) (leadsAnswer (valuesOf (plan .table)) state (length (now (out .entry)))) (now (out .entry)) ⌝ }
 {
-    let table = plan.table;
-    let needed = 4 * table.elements * (table.leads + 1);
+    let needed = answer_numbers(plan.table.elements, plan.table.leads);
     if out.len() < needed {
         return ForecastAnswer::Refused(Refusal::AnswerSpace);
     }
-    let count = rain_count(state.steps);
     let mut answer = [0u64; 3328];
-    let mut sums = [0u64; 3380];
-    let verdict = work_leads(plan, count, state, &mut answer, &mut sums);
+    let verdict = work_out(plan, state, &mut answer);
+    let written = written_by(verdict, needed);
+    copy_numbers(&answer, written, out);
     match verdict {
-        Verdict::Accepted => {
-            copy_numbers(&answer, needed, out);
-            ForecastAnswer::Accepted(needed)
-        }
+        Verdict::Accepted => ForecastAnswer::Accepted(written),
         Verdict::Refused(refusal) => ForecastAnswer::Refused(refusal),
     }
 }

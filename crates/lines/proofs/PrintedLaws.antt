@@ -1,18 +1,18 @@
 -- Laws of what is printed.
 use Prim.Native.Nat.{ℕ, zero, suc, _+_, _*_, _≤_, _<_}
-use mathlib.Core.List.{List, [], _∷_, _++_}
-use mathlib.Core.Path.{_≡_, refl, sym, ap, subst, _∙_}
-use native.Mathlib.Nat.{mul-le-mul-right}
+use mathlib.Core.List.{List, [], _∷_, _++_, append-assoc}
+use mathlib.Core.Path.{_≡_, refl, ap, _∙_}
+use native.Mathlib.Nat.{add-zero, mul-le-mul-right}
 use native.Mathlib.Numerals.{add-one}
 use native.Mathlib.Omega.{arith}
-use lib.ListN.{length, length-append, List·getD-append}
+use lib.ListN.{length, getD, List·getD-append}
 use Rattle.text.specs.Decimal.{decimal}
 use Rattle.text.specs.Lines.{line}
 use Rattle.text.specs.Places.{Put}
-use Rattle.text.proofs.DecimalLaws.{decimal-short}
-use Rattle.text.proofs.LineLaws.{number-then, line-short}
+use Rattle.text.proofs.LineLaws.{line-then}
 use Rattle.text.proofs.PlacesLaws.{put-then, put-same, put-nothing}
 use Rattle.lines.specs.Printed.{joined, lineFrom, elementLines, answerLines, refusedWord, refusalLine}
+use Rattle.lines.specs.Starts.{byteAfter, figuresFrom, lineAfter, linesAfter}
 
 -- the three parts of a refusal's line
 pub refusal-put :
@@ -20,27 +20,19 @@ pub refusal-put :
     → Put l at (decimal steps ++ 32 ∷ []) m i
     → Put m i refusedWord n j
     → Put n j (decimal number ++ 10 ∷ []) o k
-    → at + 50 ≤ length l
-    → length m ≡ length l
-    → i ≤ at + 21
-    → Put l at (refusalLine steps number) o k × (k ≤ at + 50)
+    → Put l at (refusalLine steps number) o k
 unfolding refusalLine
-refusal-put steps number {at = at} {i} {j} {k} p q r room same few =
-    let last : length (decimal number ++ 10 ∷ []) ≤ 21 = rw length-append (omega (arith, decimal-short number)) in
-    let short : length (refusedWord ++ (decimal number ++ 10 ∷ [])) ≤ 29 = omega arith in
-    let rest = put-then q r (omega arith) in
-    (number-then steps 32 (refusedWord ++ (decimal number ++ 10 ∷ [])) p rest (omega arith), omega (arith, q .ends, r .ends))
+refusal-put steps number p q r =
+    put-same (append-assoc (decimal steps) (32 ∷ []) (refusedWord ++ (decimal number ++ 10 ∷ []))) (put-then p (put-then q r))
 
 -- what a function gives for k more numbers, after what it gives for those before
 pub joined-more :
     (f : ℕ → List ℕ) (k : ℕ) {l m n : List ℕ} {at i j : ℕ}
     → Put l at (joined f k) m i
     → Put m i (f k) n j
-    → j ≤ length l
     → Put l at (joined f (k + 1)) n j
 unfolding joined
-joined-more f k {l} {m} {n} {at} {i} {j} p q room =
-    rw add-one (put-then p q (omega (arith, p .ends, q .ends)))
+joined-more f k p q = rw add-one (put-then p q)
 
 pub joined-none : (f : ℕ → List ℕ) (l : List ℕ) (at : ℕ) → Put l at (joined f 0) l at
 unfolding joined
@@ -57,6 +49,53 @@ pub joined-same : (f g : ℕ → List ℕ) (n : ℕ) → ((k : ℕ) → k < n �
 unfolding joined
 joined-same f g zero h = refl
 joined-same f g (suc n) h = rw (joined-same f g n (λ k l. h k (omega arith)), h n (omega arith))
+
+-- a figure, with the byte after it
+abbrev pub figureText : List ℕ → ℕ → ℕ → List ℕ
+figureText numbers from k = decimal (getD numbers (from + k) 0) ++ byteAfter k ∷ []
+
+-- the four figures end a line
+pub figures-line : (numbers : List ℕ) (from : ℕ) → joined (figureText numbers from) 4 ≡ line (figuresFrom numbers from)
+unfolding joined line
+figures-line numbers from = rw add-zero (simp append-assoc)
+
+-- one figure more
+pub figure-more :
+    (numbers : List ℕ) (from k after : ℕ) {l m n : List ℕ} {at i j : ℕ}
+    → after ≡ byteAfter k
+    → Put l at (joined (figureText numbers from) k) m i
+    → Put m i (decimal (getD numbers (from + k) 0) ++ after ∷ []) n j
+    → Put l at (joined (figureText numbers from) (k + 1)) n j
+figure-more numbers from k after e p q =
+    joined-more (figureText numbers from) k p (put-same (ap (λ b. decimal (getD numbers (from + k) 0) ++ b ∷ []) e) q)
+
+-- the start of a line, its lead and its figures
+pub line-put :
+    (start : List ℕ) (lead from : ℕ) (numbers : List ℕ) {l m n o : List ℕ} {at i j k : ℕ}
+    → Put l at start m i
+    → Put m i (decimal lead ++ 32 ∷ []) n j
+    → Put n j (line (figuresFrom numbers from)) o k
+    → Put l at (lineAfter start lead numbers from) o k
+unfolding lineAfter
+line-put start lead from numbers p q r = put-then p (put-same (line-then lead _ _) (put-then q r))
+
+-- a line that starts with the step count and the element
+line-starts :
+    (steps i lead from : ℕ) (numbers : List ℕ)
+    → lineAfter ((decimal steps ++ 32 ∷ []) ++ (decimal (i + 1) ++ 32 ∷ [])) lead numbers from ≡ lineFrom steps i lead numbers from
+unfolding lineAfter lineFrom
+line-starts steps i lead from numbers =
+    append-assoc (decimal steps ++ 32 ∷ []) (decimal (i + 1) ++ 32 ∷ []) (line (lead ∷ figuresFrom numbers from))
+    ∙ ap (λ l. (decimal steps ++ 32 ∷ []) ++ l) (line-then (i + 1) lead (figuresFrom numbers from))
+    ∙ line-then steps (i + 1) (lead ∷ figuresFrom numbers from)
+
+pub lines-start :
+    (steps i leads : ℕ) (numbers start : List ℕ)
+    → start ≡ decimal steps ++ 32 ∷ []
+    → linesAfter (start ++ (decimal (i + 1) ++ 32 ∷ [])) leads numbers i ≡ elementLines steps leads numbers i
+unfolding linesAfter elementLines
+lines-start steps i leads numbers start e =
+    rw e (joined-same _ _ leads (λ lead h. line-starts steps i lead (4 * (i * leads + lead)) numbers))
 
 -- numbers after those of the answer are not printed
 module _ (steps leads elements : ℕ) (numbers behind : List ℕ) (enough : 4 * (elements * leads) ≤ length numbers) where

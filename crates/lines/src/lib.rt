@@ -1,48 +1,18 @@
 ghost use mathlib.Core.List.{[], _∷_, _++_};
+ghost use mathlib.Core.Path.{_≡_};
 ghost use Prim.Native.Nat.{_+_, _*_, _≤_, _<_};
-ghost use lib.ListN.{length};
+ghost use lib.ListN.{length, take};
 ghost use Rattle.text.specs.Decimal.{decimal};
 ghost use Rattle.text.specs.Lines.{line};
+ghost use Rattle.text.specs.Pairs.{pairsBelow};
 ghost use Rattle.text.specs.Places.{Put};
-ghost use Rattle.lines.specs.Printed.{refusalLine, lineFrom, elementLines, answerLines};
+ghost use Rattle.lines.specs.Printed.{refusalLine, answerLines};
+ghost use Rattle.lines.specs.Starts.{byteAfter, figuresFrom, lineAfter, linesAfter};
+use figure_text::put_figure;
+use text::digit_pairs;
 use text::put_bytes;
-use text::put_digit;
 use text::put_number;
-
-// The digits of x and then one byte, put at a place; the place after them. Most numbers of a line have one digit.
-fn put_short_or_long(out: &mut [u8], at: usize, x: u64, after: u8) -> usize
-    requires { ⌜ at + 21 ≤ length (now out) ⌝ }
-    ensures { λ r. ⌜ Put (now (out .entry)) at (decimal x ++ after ∷ []) (now (out .exit)) r × (r ≤ at + 21) ⌝ }
-{
-    if x < 10 {
-        return put_digit(out, at, x, after);
-    }
-    put_number(out, at, x, after)
-}
-
-// The line of an element at a lead, put at a place; the place after it.
-fn put_line(
-    out: &mut [u8],
-    at: usize,
-    steps: u64,
-    element: u64,
-    lead: u64,
-    q: u64,
-    e: u64,
-    v: u64,
-    d: u64,
-) -> usize
-    requires { ⌜ at + 147 ≤ length (now out) ⌝ }
-    ensures { λ r. ⌜ Put (now (out .entry)) at (line (steps ∷ element ∷ lead ∷ q ∷ e ∷ v ∷ d ∷ [])) (now (out .exit)) r × (r ≤ at + 147) ⌝ }
-{
-    let p1 = put_short_or_long(&mut *out, at, steps, b' ');
-    let p2 = put_short_or_long(&mut *out, p1, element, b' ');
-    let p3 = put_short_or_long(&mut *out, p2, lead, b' ');
-    let p4 = put_short_or_long(&mut *out, p3, q, b' ');
-    let p5 = put_short_or_long(&mut *out, p4, e, b' ');
-    let p6 = put_short_or_long(&mut *out, p5, v, b' ');
-    put_short_or_long(&mut *out, p6, d, b'\n')
-}
+use text::put_small;
 
 // The line of a refusal, put at a place; the place after it.
 pub fn put_refusal(out: &mut [u8], at: usize, steps: u64, number: u64) -> usize
@@ -54,48 +24,84 @@ pub fn put_refusal(out: &mut [u8], at: usize, steps: u64, number: u64) -> usize
     put_number(&mut *out, p2, number, b'\n')
 }
 
-// The line of element i, counted from 0, at a lead, with the four numbers from a place on.
-fn put_line_from(
+// How a line starts, put at a place; the place after it. Sixteen bytes are copied at once, also where fewer count.
+fn put_start(out: &mut [u8], at: usize, start: &[u8], size: usize) -> usize
+    requires { ⌜ (length (now start) ≡ 32) × ((size ≤ 32) × (at + 32 ≤ length (now out))) ⌝ }
+    ensures { λ r. ⌜ Put (now (out .entry)) at (take size (now (start .entry))) (now (out .exit)) r ⌝ }
+{
+    if size <= 16 {
+        put_bytes(&mut *out, at, &start[..16]);
+        return at + size;
+    }
+    put_bytes(&mut *out, at, &start[..size])
+}
+
+// The byte after the figure k of a line, counted from 0.
+fn byte_after(k: usize) -> u8
+    ensures { λ r. ⌜ r ≡ byteAfter k ⌝ }
+{
+    if k < 3 { b' ' } else { b'\n' }
+}
+
+// The four figures from a place on, which end a line, put at a place; the place after them.
+fn put_figures(out: &mut [u8], at: usize, numbers: &[u64], from: usize, pairs: &[u16]) -> usize
+    requires { ⌜ (at + 84 ≤ length (now out)) × ((from + 4 ≤ length (now numbers)) × (now pairs ≡ pairsBelow 100)) ⌝ }
+    ensures { λ r. ⌜ Put (now (out .entry)) at (line (figuresFrom (now (numbers .entry)) from)) (now (out .exit)) r × (r ≤ at + 84) ⌝ }
+{
+    let mut next = at;
+    for k in 0..4 {
+        let after = byte_after(k);
+        next = put_figure(&mut *out, next, numbers[from + k], after, pairs);
+    }
+    next
+}
+
+// The line at a lead, with the four figures from a place on, put at a place; the place after it.
+fn put_line(
     out: &mut [u8],
     at: usize,
-    steps: u64,
-    i: usize,
+    start: &[u8],
+    size: usize,
     lead: usize,
     numbers: &[u64],
     from: usize,
+    pairs: &[u16],
 ) -> usize
-    requires { ⌜ (at + 147 ≤ length (now out)) × ((from + 4 ≤ length (now numbers)) × (i < 64)) ⌝ }
-    ensures { λ r. ⌜ Put (now (out .entry)) at (lineFrom steps i lead (now (numbers .entry)) from) (now (out .exit)) r × (r ≤ at + 147) ⌝ }
+    requires { ⌜ (at + 147 ≤ length (now out)) × ((length (now start) ≡ 32) × ((size ≤ 32) × ((lead < 100) × ((from + 4 ≤ length (now numbers)) × (now pairs ≡ pairsBelow 100))))) ⌝ }
+    ensures { λ r. ⌜ Put (now (out .entry)) at (lineAfter (take size (now (start .entry))) lead (now (numbers .entry)) from) (now (out .exit)) r × (r ≤ at + 147) ⌝ }
 {
-    let q = numbers[from];
-    let e = numbers[from + 1];
-    let v = numbers[from + 2];
-    let d = numbers[from + 3];
-    put_line(&mut *out, at, steps, i as u64 + 1, lead as u64, q, e, v, d)
+    let p1 = put_start(&mut *out, at, start, size);
+    let p2 = put_small(&mut *out, p1, lead as u64, b' ', pairs);
+    put_figures(&mut *out, p2, numbers, from, pairs)
 }
 
-// The lines of element i, counted from 0, of a forecast's numbers, put at a place; the place after them.
+// The lines of element i, counted from 0, of a forecast's numbers, put at a place; the place after them. The start of a line says the
+// step count already, and is given the element.
 fn put_element(
     out: &mut [u8],
     at: usize,
     numbers: &[u64],
-    steps: u64,
+    start: &mut [u8],
+    size: usize,
     i: usize,
     leads: usize,
+    pairs: &[u16],
 ) -> usize
-    requires { ⌜ (at + 147 * leads ≤ length (now out)) × ((4 * (i * leads + leads) ≤ length (now numbers)) × (i < 64)) ⌝ }
-    ensures { λ r. ⌜ Put (now (out .entry)) at (elementLines steps leads (now (numbers .entry)) i) (now (out .exit)) r × (r ≤ at + 147 * leads) ⌝ }
+    requires { ⌜ (at + 147 * leads ≤ length (now out)) × ((4 * (i * leads + leads) ≤ length (now numbers)) × ((i < 64) × ((leads ≤ 100) × ((length (now start) ≡ 32) × ((size ≤ 21) × (now pairs ≡ pairsBelow 100)))))) ⌝ }
+    ensures { λ r. ⌜ Put (now (out .entry)) at (linesAfter (take size (now (start .entry)) ++ (decimal (i + 1) ++ 32 ∷ [])) leads (now (numbers .entry)) i) (now (out .exit)) r × ((r ≤ at + 147 * leads) × (take size (now (start .exit)) ≡ take size (now (start .entry)))) ⌝ }
 {
+    let whole = put_small(&mut *start, size, i as u64 + 1, b' ', pairs);
     let mut next = at;
     for lead in 0..leads {
-        next = put_line_from(
+        next = put_line(
             &mut *out,
             next,
-            steps,
-            i,
+            &*start,
+            whole,
             lead,
             numbers,
             4 * (i * leads + lead),
+            pairs,
         );
     }
     next
@@ -110,12 +116,15 @@ pub fn put_lines(
     elements: usize,
     leads: usize,
 ) -> usize
-    requires { ⌜ (at + 147 * (elements * leads) ≤ length (now out)) × ((4 * (elements * leads) ≤ length (now numbers)) × (elements ≤ 64)) ⌝ }
+    requires { ⌜ (at + 147 * (elements * leads) ≤ length (now out)) × ((4 * (elements * leads) ≤ length (now numbers)) × ((elements ≤ 64) × (leads ≤ 100))) ⌝ }
     ensures { λ r. ⌜ Put (now (out .entry)) at (answerLines steps leads (now (numbers .entry)) elements) (now (out .exit)) r × (r ≤ at + 147 * (elements * leads)) ⌝ }
 {
+    let pairs = digit_pairs();
+    let mut start = [0u8; 32];
+    let size = put_number(&mut start, 0, steps, b' ');
     let mut next = at;
     for i in 0..elements {
-        next = put_element(&mut *out, next, numbers, steps, i, leads);
+        next = put_element(&mut *out, next, numbers, &mut start, size, i, leads, &pairs);
     }
     next
 }

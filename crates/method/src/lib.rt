@@ -9,6 +9,7 @@ use units::VarianceAnswer;
 use weighting::Estimate;
 
 // What an element holds or takes in: discharge and variance, each with its margin.
+#[repr(C)]
 pub struct Figures {
     pub discharge: Discharge,
     pub discharge_margin: Discharge,

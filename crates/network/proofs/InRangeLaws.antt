@@ -15,15 +15,14 @@ use Rattle.record.specs.declared.Input.{Input}
 use Rattle.record.specs.Decoded.{noInput, ObservationFits}
 use Rattle.state.specs.declared.State.{State}
 use Rattle.state.specs.States.{noPlace, placeOf}
-use Rattle.element_step.specs.declared.Gathered.{Gathered}
-use Rattle.element_step.specs.Bounds.{ElementInRange, GatheredBelow}
+use Rattle.element_step.specs.Bounds.{ElementInRange}
 use Rattle.network.specs.Bounds.{inputsOf, InputsFit, FiguresUnder}
 
 -- what the step of an element in use may rely on
 pub element-in-range : (table : Table) → TableBounds (valuesOf table) → (i : ℕ) → i < table .elements → ElementInRange (getD (table .element) i noElement)
 element-in-range table b i l =
     let e = element-bounds table b i l in
-    record { area = e .area; runoff = e .runoff; noise = omega (arith, e .noise); rain = e .rain }
+    record { noise = omega (arith, e .noise); rain = e .rain }
 
 pub figures-in-range : (s : State) (n : ℕ) → FiguresUnder s n → (i : ℕ) → i < n → FiguresFit (getD (s .element) i noPlace .figures)
 unfolding placeOf
@@ -40,12 +39,3 @@ module _ (n : ℕ) (places : List Input) (h : InputsFit places n) (i : ℕ) (l :
 
   pub observation-in-range : ObservationFits (getD places i noInput .observation)
   observation-in-range = subst (λ (x : Input). ObservationFits (x .observation)) held (h .observation i l)
-
-pub gathered-most : (g : Gathered) (b m : ℕ) → GatheredBelow g b → b ≤ m → GatheredBelow g m
-gathered-most g b m h l =
-    record {
-      discharge = omega (arith, h .discharge);
-      dischargeMargin = omega (arith, h .dischargeMargin);
-      variance = omega (arith, h .variance);
-      varianceMargin = omega (arith, h .varianceMargin);
-    }

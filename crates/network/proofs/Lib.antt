@@ -1,6 +1,5 @@
 pub mod WalkLaws
 pub mod InRangeLaws
-pub mod NetworkLaws
-pub mod AdvanceLaws
-pub mod StepLaws
 pub mod StateFitsLaws
+pub mod CoursesLaws
+pub mod StepLaws

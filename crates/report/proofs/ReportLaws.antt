@@ -118,14 +118,6 @@ step-refused t forecast s (refused n) a k h e =
     let z : number k ≡ n = cc in
     rw (z, h .state)
 
--- the same lent space by another name
-pub lent-room :
-    (t : TableValues) (s : State) (n m : ℕ) {r : ForecastAnswer} {after before : List ℕ}
-    → n ≡ m
-    → Lent r after (forecastOnAnswer t s n) before
-    → Lent r after (forecastOnAnswer t s m) before
-lent-room t s n m {r} {after} {before} e h = subst (λ k. Lent r after (forecastOnAnswer t s k) before) e h
-
 pub few-leads : (table : Table) → TableBounds (valuesOf table) → table .leads ≤ 12
 unfolding valuesOf
 few-leads table b = b .leadsMost

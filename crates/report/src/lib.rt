@@ -49,17 +49,17 @@ fn answer_forecast(
     requires { ⌜ PlanFits plan × ((length (now numbers) ≡ 3328) × (at + 122304 ≤ length (now out))) ⌝ }
     ensures { λ r. ⌜ Reported r (now (out .entry)) at (now (out .exit)) (forecastPrinted (valuesOf (plan .table)) state (forecastOnAnswer (valuesOf (plan .table)) state 3328)) ⌝ }
 {
-    let answer = engine::forecast_with(plan, state, &mut *numbers);
+    let answer = engine::forecast_in(plan, state, &mut *numbers);
     match answer {
         ForecastAnswer::Accepted(_) => {
-            let table = plan.table;
+            let leads = plan.table.leads;
             let end = put_lines(
                 &mut *out,
                 at,
                 &*numbers,
                 state.steps,
-                table.elements,
-                table.leads + 1,
+                plan.table.elements,
+                leads + 1,
             );
             RecordAnswer {
                 state,

@@ -7,6 +7,7 @@ ghost use Rattle.plan.specs.Plans.{PlanFits};
 ghost use Rattle.session.specs.Windows.{Within, Kept, SessionFits};
 use fields::bytes::read16;
 use plan::Plan;
+use report::NextAnswer;
 use report::answer_next;
 use state::State;
 
@@ -130,6 +131,25 @@ pub struct Session {
     pub ended: bool,
 }
 
+// What the program holds after a record: the input from the record's end on.
+fn after_record(next: NextAnswer, window: Window) -> Session
+    requires { ⌜ window .from + next .length ≤ window .have ⌝ }
+    ensures { λ r. ⌜ (r .window ≡ record { from = window .from + next .length; have = window .have; more = window .more }) × (r .at ≡ next .answer .end) ⌝ }
+{
+    let answer = next.answer;
+    let state = answer.state;
+    Session {
+        state,
+        window: Window {
+            from: window.from + next.length,
+            have: window.have,
+            more: window.more,
+        },
+        at: answer.end,
+        ended: answer.ended,
+    }
+}
+
 // Answers the next record of the input that is held; none is left where nothing is held.
 fn answer_held(
     plan: Plan,
@@ -162,18 +182,7 @@ fn answer_held(
         &mut *out,
         at,
     );
-    let answer = next.answer;
-    let after = answer.state;
-    Session {
-        state: after,
-        window: Window {
-            from: from + next.length,
-            have,
-            more: window.more,
-        },
-        at: answer.end,
-        ended: answer.ended,
-    }
+    after_record(next, window)
 }
 
 // Answers the next record, with enough of the input read before.

@@ -7,6 +7,7 @@ use units::Discharge;
 use units::Variance;
 
 // A basin's last three rains, the latest first.
+#[repr(C)]
 pub struct Rains {
     pub first: u64,
     pub second: u64,
@@ -14,12 +15,14 @@ pub struct Rains {
 }
 
 // What the state keeps of one element.
+#[repr(C)]
 pub struct ElementState {
     pub figures: Figures,
     pub rains: Rains,
 }
 
 // The river's state: its first N places are in use.
+#[repr(C)]
 pub struct State {
     pub elements: usize,
     pub steps: u64,

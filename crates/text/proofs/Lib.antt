@@ -1,3 +1,4 @@
 pub mod PlacesLaws
 pub mod DecimalLaws
+pub mod PairsLaws
 pub mod LineLaws

@@ -1,5 +1,5 @@
 -- Document 01: "Bases are decimal unless hex is said." A number as text, in ASCII.
-use Prim.Native.Nat.{ℕ, zero, suc, _+_, _-_, _/_, _%_, _^_, _≤_, _<_}
+use Prim.Native.Nat.{ℕ, zero, suc, _+_, _/_, _%_}
 use mathlib.Core.Bool.{cond}
 use mathlib.Core.List.{List, [], _∷_, _++_}
 use lib.Dec.{ltb}
@@ -18,10 +18,3 @@ decimal n = digitsWithin 20 n
 unfoldable pub lastDigits : ℕ → ℕ → List ℕ
 lastDigits zero n = []
 lastDigits (suc count) n = lastDigits count (n / 10) ++ (48 + n % 10) ∷ []
-
--- n has so many digits
-pub record DigitCount (n count : ℕ) : Type 0 where
-  pub some : 1 ≤ count
-  pub few : count ≤ 20
-  pub enough : n < 10 ^ count
-  pub needed : 1 < count → 10 ^ (count - 1) ≤ n

@@ -1,13 +1,10 @@
--- Bytes put into lent space at a place: what stands before and after them stays.
+-- Bytes put into lent space at a place.
 use Prim.Native.Nat.{ℕ, _+_}
 use mathlib.Core.List.{List, _++_}
 use mathlib.Core.Path.{_≡_}
-use lib.ListN.{length, take, drop}
+use lib.ListN.{length, take}
 
-unfoldable pub putAt : List ℕ → ℕ → List ℕ → List ℕ
-putAt before at bytes = take at before ++ bytes ++ drop (at + length bytes) before
-
--- bytes were put at a place, and the place after them is known
+-- up to the place after the bytes stand these, and before them what stood there; what stands after them may change
 pub record Put (before : List ℕ) (at : ℕ) (bytes after : List ℕ) (next : ℕ) : Type 0 where
-  pub holds : after ≡ putAt before at bytes
+  pub holds : take next after ≡ take at before ++ bytes
   pub ends : next ≡ at + length bytes

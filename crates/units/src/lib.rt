@@ -6,9 +6,11 @@ ghost use Rattle.units.specs.Answers.{dischargeAnswer, varianceAnswer};
 use refusal::Refusal;
 
 // A discharge, an inflow or a margin of one, in grains of 0.000001 m³/s.
+#[repr(C)]
 pub struct Discharge(pub u64);
 
 // A variance or a margin of one, in units of 0.001 (m³/s)².
+#[repr(C)]
 pub struct Variance(pub u64);
 
 // A stage in millimetres.

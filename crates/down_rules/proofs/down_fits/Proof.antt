@@ -6,12 +6,12 @@ use Rattle.elements.specs.Rules.{downFits}
 use Rattle.down_rules.proofs.down_fits.Statement.{statement}
 use Rattle.down_rules.proofs.down_fits.Tie as tie
 
-element-at-requires : tie.Need-element-at-requires
-element-at-requires c κs = search needs
+down-at-requires : tie.Need-down-at-requires
+down-at-requires c κs = search needs
 
 returns : tie.Need-returns
 unfolding downFits
-returns c = rw (← c .before .element-at .ensures, eq-eqb _ _ (c .if1 .taken))
+returns c = rw (← c .before .down-at .ensures, eq-eqb _ _ (c .if1 .taken))
 
 add-if2 : tie.Need-add-if2
 add-if2 c = search needs
@@ -20,40 +20,40 @@ returns-2 : tie.Need-returns-2
 unfolding downFits
 returns-2 c =
     let e = c .before .before in
-    rw (← e .element-at .ensures, ne-eqb _ _ (c .before .if1 .left), le-ltb _ _ (c .if2 .taken))
+    rw (← e .down-at .ensures, ne-eqb _ _ (c .before .if1 .left), le-ltb _ _ (c .if2 .taken))
 
 returns-3 : tie.Need-returns-3
 unfolding downFits
 returns-3 c =
     let l = c .before in
     let e = l .before .before in
-    rw (← e .element-at .ensures, ne-eqb _ _ (l .before .if1 .left), lt-ltb _ _ (l .if2 .left), lt-leb _ _ (c .if3 .taken))
+    rw (← e .down-at .ensures, ne-eqb _ _ (l .before .if1 .left), lt-ltb _ _ (l .if2 .left), lt-leb _ _ (c .if3 .taken))
 
-sub-element-at : tie.Need-sub-element-at
-sub-element-at c = search needs
+sub-kind-at : tie.Need-sub-kind-at
+sub-kind-at c = search needs
 
-element-at-requires-2 : tie.Need-element-at-requires-2
-element-at-requires-2 c κs = search needs
+kind-at-requires : tie.Need-kind-at-requires
+kind-at-requires c κs = search needs
 
 returns-4 : tie.Need-returns-4
 unfolding downFits
 returns-4 c =
-    let m = c .before .before in
+    let m = c .before in
     let l = m .before in
     let e = l .before .before in
     let later = lt-ltb _ _ (l .if2 .left) in
     let most = le-leb _ _ (m .if3 .left) in
-    rw (← e .element-at .ensures, ne-eqb _ _ (l .before .if1 .left), later, most, ← c .before .element-at2 .ensures)
+    rw (← e .down-at .ensures, ne-eqb _ _ (l .before .if1 .left), later, most, ← c .kind-at .ensures)
 
 pub down-fits-spec : {M : Type 1} → statement M
 down-fits-spec =
     tie.close
     (tie.spec
-    element-at-requires
+    down-at-requires
     returns
     add-if2
     returns-2
     returns-3
-    sub-element-at
-    element-at-requires-2
+    sub-kind-at
+    kind-at-requires
     returns-4)

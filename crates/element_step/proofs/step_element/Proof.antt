@@ -28,8 +28,8 @@ move-element-requires c κs =
       (
         p .1 .0,
         (
-          p .1 .1 .1 .1 .0,
-          (subst AnsweredFiguresFit (x .inflow .given .1) (x .before .before .inflow-of .ensures .1), p .1 .1 .1 .1 .1),
+          p .1 .1 .1 .0,
+          (subst AnsweredFiguresFit (x .inflow .given .1) (x .before .before .inflow-of .ensures .1), p .1 .1 .1 .1),
         ),
       ),
     )

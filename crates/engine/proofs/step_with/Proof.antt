@@ -14,7 +14,7 @@ use Rattle.engine.proofs.step_with.Statement.{statement}
 use Rattle.engine.proofs.step_with.Tie as tie
 
 state-fits-requires : tie.Need-state-fits-requires
-state-fits-requires c κs = few-elements _ (c .before .before .pre .table)
+state-fits-requires c κs = few-elements _ (c .before .pre .table)
 
 refused-requires : tie.Need-refused-requires
 refused-requires c κs = search needs
@@ -26,14 +26,14 @@ returns c =
 
 -- rules 8 and 9 are kept
 module _ (c : tie.Else1) where
-  fits : stateFits (valuesOf (c .before .before .before .before .args .plan .table)) (c .before .before .before .before .args .state) ≡ true
+  fits : stateFits (valuesOf (c .before .before .before .args .plan .table)) (c .before .before .before .args .state) ≡ true
   fits = sym (c .before .state-fits .ensures) ∙ not-false _ (c .if1 .left)
 
-  under : FiguresUnder (c .before .before .before .before .args .state) (c .before .before .before .before .args .plan .table .elements)
+  under : FiguresUnder (c .before .before .before .args .state) (c .before .before .before .args .plan .table .elements)
   unfolding valuesOf
   under = places-under _ _ fits
 
-left : (c : tie.Else2) → stepsLeft (c .before .before .before .before .before .before .args .state) ≡ true
+left : (c : tie.Else2) → stepsLeft (c .before .before .before .before .before .args .state) ≡ true
 left c = sym (c .before .steps-left .ensures) ∙ not-false _ (c .if2 .left)
 
 steps-left-requires : tie.Need-steps-left-requires
@@ -58,7 +58,7 @@ step-on-requires : tie.Need-step-on-requires
 step-on-requires c κs =
     let r = c .before .before .before in
     let e = r .before .before .before in
-    let p = r .before .before .before .before .before .before .before .pre in
+    let p = r .before .before .before .before .before .before .pre in
     (p, (inputs-fit _ _ _ (r .read .ensures) (c .enum-told .given .1), (under e, steps-most _ _ (fits e))))
 
 enum-told-2 : tie.Need-enum-told-2

@@ -11,17 +11,17 @@ returns : tie.Need-returns
 unfolding elementBefore
 returns c = rw (c .if1 .taken)
 
-sub-gauge-at : tie.Need-sub-gauge-at
-sub-gauge-at c = search needs
+sub-element-of : tie.Need-sub-element-of
+sub-element-of c = search needs
 
-gauge-at-requires : tie.Need-gauge-at-requires
-gauge-at-requires c κs = search needs
+element-of-requires : tie.Need-element-of-requires
+element-of-requires c κs = search needs
 
 returns-2 : tie.Need-returns-2
 returns-2 c =
     let s = c .before .before .before in
     let l : 0 < s .args .g = omega arith in
-    rw (element-before, ← c .gauge-at .ensures)
+    rw (element-before, ← c .element-of .ensures)
 
 pub element-before-spec : {M : Type 1} → statement M
-element-before-spec = tie.close (tie.spec returns sub-gauge-at gauge-at-requires returns-2)
+element-before-spec = tie.close (tie.spec returns sub-element-of element-of-requires returns-2)

@@ -1,39 +1,50 @@
 -- `put_element` meets its contract.
 use Prim.Native.Nat.{ℕ, _+_, _*_, _-_, _≤_}
 use mathlib.Core.List.{List}
-use mathlib.Core.Path.{_≡_, refl, _∙_}
+use mathlib.Core.Path.{_≡_, refl, ap, _∙_}
 use native.Mathlib.Omega.{arith}
-use lib.ListN.{length}
+use lib.ListN.{length, take}
 use Rattle.text.specs.Places.{Put}
-use Rattle.lines.specs.Printed.{joined, lineFrom, elementLines}
+use Rattle.text.proofs.PlacesLaws.{put-before, put-same}
+use Rattle.lines.specs.Printed.{joined}
+use Rattle.lines.specs.Starts.{lineAfter, linesAfter}
 use Rattle.lines.proofs.PrintedLaws.{joined-none, joined-more, joined-all}
 use Rattle.lines.proofs.put_element.Statement.{statement}
 use Rattle.lines.proofs.put_element.Tie as tie
 
-abbrev lineOf : ℕ → ℕ → ℕ → List ℕ → ℕ → List ℕ
-lineOf steps i leads numbers lead = lineFrom steps i lead numbers (4 * (i * leads + lead))
+abbrev lineOf : List ℕ → ℕ → ℕ → List ℕ → ℕ → List ℕ
+lineOf start i leads numbers lead = lineAfter start lead numbers (4 * (i * leads + lead))
 
 abbrev Inv-loop : tie.InvT-loop
-Inv-loop out₀ at numbers steps i leads next₀ lead₀ out next lead =
-    (lead ≤ leads) × ((next ≤ at + 147 * lead) × ((length out ≡ length out₀) × Put out₀ at (joined (lineOf steps i leads numbers) lead) out next))
+Inv-loop out₀ at numbers start size i leads pairs whole next₀ lead₀ out next lead =
+    (lead ≤ leads) × ((next ≤ at + 147 * lead) × ((length out ≡ length out₀) × Put out₀ at (joined (lineOf (take whole start) i leads numbers) lead) out next))
 
 abbrev μ-loop : tie.MeasureT-loop
-μ-loop out₀ at numbers steps i leads next₀ lead₀ out next lead = leads - lead
+μ-loop out₀ at numbers start size i leads pairs whole next₀ lead₀ out next lead = leads - lead
+
+add-put-small : tie.Need-add-put-small Inv-loop μ-loop
+add-put-small c = omega arith
+
+put-small-requires : tie.Need-put-small-requires Inv-loop μ-loop
+put-small-requires c κs = (omega arith, (omega arith, c .before .before .before .before .before .pre .1 .1 .1 .1 .1 .1))
 
 loop-holds : tie.Need-loop-holds Inv-loop μ-loop
 loop-holds c = (omega arith, (omega arith, (refl, joined-none _ _ _)))
 
-mul-put-line-from : tie.Need-mul-put-line-from Inv-loop μ-loop
-mul-put-line-from c = omega arith
+mul-put-line : tie.Need-mul-put-line Inv-loop μ-loop
+mul-put-line c = omega arith
 
-add-put-line-from : tie.Need-add-put-line-from Inv-loop μ-loop
-add-put-line-from c = omega arith
+add-put-line : tie.Need-add-put-line Inv-loop μ-loop
+add-put-line c = omega arith
 
-mul-put-line-from-2 : tie.Need-mul-put-line-from-2 Inv-loop μ-loop
-mul-put-line-from-2 c = omega arith
+mul-put-line-2 : tie.Need-mul-put-line-2 Inv-loop μ-loop
+mul-put-line-2 c = omega arith
 
-put-line-from-requires : tie.Need-put-line-from-requires Inv-loop μ-loop
-put-line-from-requires c κs = (omega arith, (omega arith, omega arith))
+put-line-requires : tie.Need-put-line-requires Inv-loop μ-loop
+put-line-requires c κs =
+    let q = c .before .before .before .before .before .before in
+    let s = q .before .before .before .before .before .before in
+    (omega arith, (q .put-small .kept .0 ∙ s .pre .1 .1 .1 .1 .0, (omega arith, (omega arith, (omega arith, s .pre .1 .1 .1 .1 .1 .1)))))
 
 add-lead : tie.Need-add-lead Inv-loop μ-loop
 add-lead c = omega arith
@@ -44,25 +55,28 @@ loop-less c = omega arith
 loop-again : tie.Need-loop-again Inv-loop μ-loop
 loop-again c =
     let d = c .before .before in
-    let l = d .before .before .before .loop in (
+    let l = d .before .before .before .before .loop in (
       omega arith,
-      (
-        omega arith,
-        (
-          d .put-line-from .kept .0 ∙ l .inv .1 .1 .0,
-          joined-more _ _ (l .inv .1 .1 .1) (d .put-line-from .ensures .0) (omega arith),
-        ),
-      ),
+      (omega arith, (d .put-line .kept .0 ∙ l .inv .1 .1 .0, joined-more _ _ (l .inv .1 .1 .1) (d .put-line .ensures .0))),
     )
 
 same-length : tie.Need-same-length Inv-loop μ-loop
 same-length c = c .before .loop .inv .1 .1 .0
 
+same-length-2 : tie.Need-same-length-2 Inv-loop μ-loop
+same-length-2 c = c .before .before .before .before .put-small .kept .0
+
 returns : tie.Need-returns Inv-loop μ-loop
-unfolding elementLines
+unfolding linesAfter
 returns c =
     let l = c .before .loop in
-    (joined-all _ _ _ (omega arith) (l .inv .1 .1 .1), omega arith)
+    let q = c .before .before .before .before in
+    let s = q .before .before .before .before .before .before in
+    let e = q .put-small .ensures .0 in (
+      put-same (ap (λ text. linesAfter text (s .args .leads) (s .args .numbers .now) (s .args .i)) (e .holds))
+          (joined-all _ _ _ (omega arith) (l .inv .1 .1 .1)),
+      (omega arith, put-before e (omega (arith, s .pre))),
+    )
 
 pub put-element-spec : {M : Type 1} → statement M
 put-element-spec =
@@ -70,13 +84,16 @@ put-element-spec =
     (tie.spec
     Inv-loop
     μ-loop
+    add-put-small
+    put-small-requires
     loop-holds
-    mul-put-line-from
-    add-put-line-from
-    mul-put-line-from-2
-    put-line-from-requires
+    mul-put-line
+    add-put-line
+    mul-put-line-2
+    put-line-requires
     add-lead
     loop-less
     loop-again
     same-length
+    same-length-2
     returns)

@@ -1,28 +1,63 @@
 -- `put_lines` meets its contract.
 use Prim.Native.Nat.{_+_, _*_, _-_, _≤_}
-use mathlib.Core.Path.{_≡_, refl, _∙_}
+use mathlib.Core.List.{[], _∷_, _++_}
+use mathlib.Core.Path.{_≡_, refl, _∙_, sym}
 use native.Mathlib.Omega.{arith}
-use lib.ListN.{length}
+use borrow.Author.Needs.{needs}
+use lib.ListN.{length, take}
+use Rattle.text.specs.Decimal.{decimal}
 use Rattle.text.specs.Places.{Put}
+use Rattle.text.proofs.PlacesLaws.{put-same}
 use Rattle.lines.specs.Printed.{joined, elementLines, answerLines}
-use Rattle.lines.proofs.PrintedLaws.{joined-none, joined-more, joined-all, rows-within}
+use Rattle.lines.proofs.PrintedLaws.{joined-none, joined-more, joined-all, rows-within, lines-start}
 use Rattle.lines.proofs.put_lines.Statement.{statement}
 use Rattle.lines.proofs.put_lines.Tie as tie
 
 abbrev Inv-loop : tie.InvT-loop
-Inv-loop out₀ at numbers steps elements leads next₀ i₀ out next i =
-    (i ≤ elements) × ((next ≤ at + 147 * (i * leads)) × ((length out ≡ length out₀) × Put out₀ at (joined (elementLines steps leads numbers) i) out next))
+Inv-loop out₀ at numbers steps elements leads pairs start₀ size next₀ i₀ out start next i =
+    (i ≤ elements)
+    × ((next ≤ at + 147 * (i * leads))
+    × ((length out ≡ length out₀)
+    × (Put out₀ at (joined (elementLines steps leads numbers) i) out next
+    × ((length start ≡ 32) × (take size start ≡ decimal steps ++ 32 ∷ [])))))
 
 abbrev μ-loop : tie.MeasureT-loop
-μ-loop out₀ at numbers steps elements leads next₀ i₀ out next i = elements - i
+μ-loop out₀ at numbers steps elements leads pairs start₀ size next₀ i₀ out start next i = elements - i
+
+digit-pairs-requires : tie.Need-digit-pairs-requires Inv-loop μ-loop
+digit-pairs-requires c κs = tt
+
+slice-aggregate-put-number : tie.Need-slice-aggregate-put-number Inv-loop μ-loop
+slice-aggregate-put-number c = refl
+
+put-number-requires : tie.Need-put-number-requires Inv-loop μ-loop
+put-number-requires c κs = omega arith
 
 loop-holds : tie.Need-loop-holds Inv-loop μ-loop
-loop-holds c = (omega arith, (omega arith, (refl, joined-none _ _ _)))
+loop-holds c =
+    let p = c .before .put-number in
+    (omega arith, (omega arith, (refl, (joined-none _ _ _, (p .kept .0, p .ensures .0 .holds)))))
+
+slice-aggregate-put-element : tie.Need-slice-aggregate-put-element Inv-loop μ-loop
+slice-aggregate-put-element c = sym (c .before .before .before .loop .inv .1 .1 .1 .1 .0)
+
+slice-aggregate-put-element-2 : tie.Need-slice-aggregate-put-element-2 Inv-loop μ-loop
+slice-aggregate-put-element-2 c = search needs
 
 put-element-requires : tie.Need-put-element-requires Inv-loop μ-loop
 put-element-requires c κs =
-    let rows = rows-within _ _ (c .before .before .before .before .before .args .leads) (c .before .loop-test .taken) in
-    (omega (arith, rows), (omega (arith, rows), omega arith))
+    let t = c .before .before .before in
+    let l = t .before .loop in
+    let p = t .before .before .before in
+    let d = p .before .before in
+    let s = d .before .before .before in
+    let rows = rows-within _ _ (s .args .leads) (t .loop-test .taken) in (
+      omega (arith, rows),
+      (
+        omega (arith, rows),
+        (omega arith, (s .pre .1 .1 .1, (l .inv .1 .1 .1 .1 .0, (p .put-number .ensures .1, d .digit-pairs .ensures)))),
+      ),
+    )
 
 add-i : tie.Need-add-i Inv-loop μ-loop
 add-i c = omega arith
@@ -32,16 +67,22 @@ loop-less c = omega arith
 
 loop-again : tie.Need-loop-again Inv-loop μ-loop
 loop-again c =
-    let d = c .before .before in
-    let t = d .before .before in
+    let d = c .before .before .before in
+    let t = d .before .before .before .before in
     let l = t .before .loop in
-    let rows = rows-within _ _ (t .before .before .before .before .args .leads) (t .loop-test .taken) in (
+    let s = t .before .before .before .before .before .before .before .before in
+    let text = l .inv .1 .1 .1 .1 .1 in
+    let e = d .put-element .ensures in
+    let rows = rows-within _ _ (s .args .leads) (t .loop-test .taken) in (
       omega arith,
       (
         omega arith,
         (
           d .put-element .kept .0 ∙ l .inv .1 .1 .0,
-          joined-more _ _ (l .inv .1 .1 .1) (d .put-element .ensures .0) (omega (arith, rows)),
+          (
+            joined-more _ _ (l .inv .1 .1 .1 .0) (put-same (lines-start _ _ _ _ _ text) (e .0)),
+            (d .put-element .kept .1 .1 .1 .0 ∙ l .inv .1 .1 .1 .1 .0, rw (e .1 .1) text),
+          ),
         ),
       ),
     )
@@ -53,8 +94,9 @@ returns : tie.Need-returns Inv-loop μ-loop
 unfolding answerLines
 returns c =
     let l = c .before .loop in
-    let e : l .i ≡ c .before .before .before .before .args .elements = omega arith in
-    (joined-all _ _ _ e (l .inv .1 .1 .1), rw e at (l .inv .1 .0))
+    let s = c .before .before .before .before .before .before .before .before in
+    let e : l .i ≡ s .args .elements = omega arith in
+    (joined-all _ _ _ e (l .inv .1 .1 .1 .0), rw e at (l .inv .1 .0))
 
 pub put-lines-spec : {M : Type 1} → statement M
 put-lines-spec =
@@ -62,7 +104,12 @@ put-lines-spec =
     (tie.spec
     Inv-loop
     μ-loop
+    digit-pairs-requires
+    slice-aggregate-put-number
+    put-number-requires
     loop-holds
+    slice-aggregate-put-element
+    slice-aggregate-put-element-2
     put-element-requires
     add-i
     loop-less

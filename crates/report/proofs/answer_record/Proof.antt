@@ -21,10 +21,10 @@ answer-refusal-requires : tie.Need-answer-refusal-requires
 answer-refusal-requires c κs = search needs
 
 same-length : tie.Need-same-length
-same-length c = search needs
+same-length c = c .before .before .before .before .answer-forecast .kept .1 .1 .0
 
 same-length-2 : tie.Need-same-length-2
-same-length-2 c = search needs
+same-length-2 c = c .before .before .before .before .answer-forecast .kept .1 .1 .1 .0
 
 returns : tie.Need-returns
 unfolding recordOnPrinted
@@ -35,7 +35,7 @@ returns c =
     reported-as (step-accepted _ _ _ _ _ (w .step-with .ensures) (m .enum-told .given .1)) (f .answer-forecast .ensures)
 
 same-length-3 : tie.Need-same-length-3
-same-length-3 c = search needs
+same-length-3 c = c .before .before .answer-refusal .kept .1 .1 .0
 
 returns-2 : tie.Need-returns-2
 unfolding recordOnPrinted

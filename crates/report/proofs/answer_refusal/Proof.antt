@@ -11,7 +11,7 @@ put-refusal-requires : tie.Need-put-refusal-requires
 put-refusal-requires c κs = search needs
 
 same-length : tie.Need-same-length
-same-length c = search needs
+same-length c = c .before .before .put-refusal .kept .0
 
 returns : tie.Need-returns
 returns c =

@@ -24,12 +24,11 @@ part-answer-next-end c = search needs
 answer-next-requires : tie.Need-answer-next-requires
 answer-next-requires c κs = search needs
 
-add-t18 : tie.Need-add-t18
-add-t18 c =
-    let a = c .before .before .before .before .before .before .before in
+after-record-requires : tie.Need-after-record-requires
+after-record-requires c κs =
+    let a = c .before .before .before .before in
     let s = a .before .before .before .before .before .before .before .before .before .before .before .before in
-    let w = window-after (s .args .session .window) _ _ _ true (s .pre .1 .0 .window) (a .answer-next .ensures .1 .within) in
-    omega (arith, w .order, w .inside)
+    window-after (s .args .session .window) _ _ _ true (s .pre .1 .0 .window) (a .answer-next .ensures .1 .within) .order
 
 same-length : tie.Need-same-length
 same-length c = search needs
@@ -39,11 +38,12 @@ same-length-2 c = search needs
 
 returns-2 : tie.Need-returns-2
 returns-2 c =
-    let a = c .before .before .before .before .before .before .before in
+    let a = c .before .before .before .before .before in
     let s = a .before .before .before .before .before .before .before .before .before .before .before .before in
+    let e = c .after-record .ensures in
     record {
-      window = window-after _ _ _ _ _ (s .pre .1 .0 .window) (a .answer-next .ensures .1 .within);
-      text = omega (arith, a .answer-next .ensures .0 .within);
+      window = rw (e .0) (window-after _ _ _ _ _ (s .pre .1 .0 .window) (a .answer-next .ensures .1 .within));
+      text = rw (e .1) (omega (arith, a .answer-next .ensures .0 .within));
     }
 
 pub answer-held-spec : {M : Type 1} → statement M
@@ -56,7 +56,7 @@ answer-held-spec =
     part-answer-next-start
     part-answer-next-end
     answer-next-requires
-    add-t18
+    after-record-requires
     same-length
     same-length-2
     returns-2)

@@ -1,37 +1,36 @@
 -- `put_bytes` meets its contract.
-use Prim.Native.Nat.{_≤_, _-_}
-use mathlib.Core.Path.{_≡_, refl, sym}
+use Prim.Native.Nat.{_+_, _≤_, _-_}
+use mathlib.Core.Path.{_≡_, refl}
 use native.Mathlib.Omega.{arith}
-use borrow.Author.Needs.{needs}
 use lib.ListN.{length, take, length-set}
-use Rattle.text.specs.Places.{putAt}
-use Rattle.text.proofs.PlacesLaws.{put-none, again, all-put}
+use Rattle.text.specs.Places.{Put}
+use Rattle.text.proofs.PlacesLaws.{put-nothing, put-more, put-all, put-ends}
 use Rattle.text.proofs.put_bytes.Statement.{statement}
 use Rattle.text.proofs.put_bytes.Tie as tie
 
 abbrev Inv-loop : tie.InvT-loop
-Inv-loop out₀ at bytes i₀ out i = (i ≤ length bytes) × ((length out ≡ length out₀) × (out ≡ putAt out₀ at (take i bytes)))
+Inv-loop out₀ at bytes i₀ out i = (i ≤ length bytes) × ((length out ≡ length out₀) × Put out₀ at (take i bytes) out (at + i))
 
 abbrev μ-loop : tie.MeasureT-loop
 μ-loop out₀ at bytes i₀ out i = length bytes - i
 
 loop-holds : tie.Need-loop-holds Inv-loop μ-loop
-loop-holds c = (omega arith, (refl, sym (put-none _ _)))
+loop-holds c = (omega arith, (refl, put-ends (put-nothing _ _) (omega arith)))
 
 shared-slice-read-out : tie.Need-shared-slice-read-out Inv-loop μ-loop
-shared-slice-read-out c = search needs
+shared-slice-read-out c = omega arith
 
 add-out : tie.Need-add-out Inv-loop μ-loop
-add-out c = search needs
+add-out c = omega arith
 
 slice-write-out : tie.Need-slice-write-out Inv-loop μ-loop
-slice-write-out c = search needs
+slice-write-out c = omega arith
 
 add-i : tie.Need-add-i Inv-loop μ-loop
-add-i c = search needs
+add-i c = omega arith
 
 loop-less : tie.Need-loop-less Inv-loop μ-loop
-loop-less c = search needs
+loop-less c = omega arith
 
 loop-again : tie.Need-loop-again Inv-loop μ-loop
 loop-again c =
@@ -41,12 +40,12 @@ loop-again c =
       omega arith,
       (
         rw length-set (l .inv .1 .0),
-        again (s .args .out .now) (s .args .at) (s .args .bytes .now) (l .i) (l .out) (l .inv .1 .1) (t .loop-test .taken) (s .pre),
+        put-more (s .args .bytes .now) (l .i) (l .inv .1 .1) (t .loop-test .taken) (omega (arith, s .pre)),
       ),
     )
 
 add-result : tie.Need-add-result Inv-loop μ-loop
-add-result c = search needs
+add-result c = omega arith
 
 same-length : tie.Need-same-length Inv-loop μ-loop
 same-length c = c .before .loop .inv .1 .0
@@ -55,7 +54,7 @@ returns : tie.Need-returns Inv-loop μ-loop
 returns c =
     let l = c .before .loop in
     let s = c .before .before in
-    all-put (s .args .out .now) (s .args .at) (s .args .bytes .now) (l .i) (l .out) (l .inv .1 .1) (omega arith)
+    put-all (s .args .bytes .now) (l .i) (l .inv .1 .1) (omega arith)
 
 pub put-bytes-spec : {M : Type 1} → statement M
 put-bytes-spec =

@@ -1,60 +1,48 @@
 -- `put_pair` meets its contract.
-use mathlib.Core.Path.{refl}
 use native.Mathlib.Omega.{arith}
 use lib.ListN.{length-set}
-use Rattle.text.proofs.DecimalLaws.{tenth, word-2}
+use Rattle.text.proofs.DecimalLaws.{word-2}
+use Rattle.text.proofs.PairsLaws.{word-at}
 use Rattle.text.proofs.PlacesLaws.{put-two, put-same}
-use borrow.Author.Needs.{needs}
 use Rattle.text.proofs.put_pair.Statement.{statement}
 use Rattle.text.proofs.put_pair.Tie as tie
 
 mul-word : tie.Need-mul-word
-mul-word c = search needs
+mul-word c = omega arith
 
-add-word : tie.Need-add-word
-add-word c = search needs
-
-mul-word-2 : tie.Need-mul-word-2
-mul-word-2 c = search needs
-
-mul-word-3 : tie.Need-mul-word-3
-mul-word-3 c = search needs
-
-sub-word : tie.Need-sub-word
-sub-word c = search needs
+shared-slice-read-word : tie.Need-shared-slice-read-word
+shared-slice-read-word c = let s = c .before in word-at _ _ (s .pre .1 .1) (s .pre .0) .1
 
 cast-out : tie.Need-cast-out
-cast-out c = search needs
+cast-out c = omega arith
 
 slice-write-out : tie.Need-slice-write-out
-slice-write-out c = search needs
+slice-write-out c = omega arith
 
 cast-out-2 : tie.Need-cast-out-2
-cast-out-2 c = search needs
+cast-out-2 c = let s = c .before in omega (arith, word-at _ _ (s .pre .1 .1) (s .pre .0) .0)
 
 add-out : tie.Need-add-out
-add-out c = search needs
+add-out c = omega arith
 
 slice-write-out-2 : tie.Need-slice-write-out-2
-slice-write-out-2 c = simp length-set (omega arith)
+slice-write-out-2 c = simp length-set (omega (arith, c .before .pre .1 .0))
 
 same-length : tie.Need-same-length
-same-length c = search needs
+same-length c = simp length-set
 
 returns : tie.Need-returns
 returns c =
-    let v = c .args .v in
-    put-same (word-2 v _ _ (omega arith) (tenth v (omega arith)) refl) (put-two (c .args .out .now) (c .args .at) _ _ (omega arith))
+    let s = c .before in
+    put-same (word-2 (s .args .v) _ (s .pre .0) (word-at _ _ (s .pre .1 .1) (s .pre .0) .0))
+    (put-two (s .args .out .now) (s .args .at) _ _ (simp length-set (omega (arith, s .pre .1 .0))) (omega (arith, s .pre .1 .0)))
 
 pub put-pair-spec : {M : Type 1} → statement M
 put-pair-spec =
     tie.close
     (tie.spec
     mul-word
-    add-word
-    mul-word-2
-    mul-word-3
-    sub-word
+    shared-slice-read-word
     cast-out
     slice-write-out
     cast-out-2

@@ -1,0 +1,196 @@
+/* Times the calls of include/river.h in the proved library against the same calls in plain C.
+ *
+ *   gcc -O3 bench/calls.c bench/plain_calls.c target/staticlib/libcapi.a
+ *   calls FILE ROUNDS      FILE holds a table and records, none of which is refused
+ *
+ * Every call is made by both and the replies must be equal, also of some that are refused. Then both are timed in turn, a round being
+ * about a thousandth of a second of processor time. For each entry it prints its name, the medians over the rounds in nanoseconds for a
+ * call (library, plain C), the median of the rounds' ratios, and the library's least time.
+ */
+#define _GNU_SOURCE
+#include <stdio.h>
+#include <stdlib.h>
+#include <string.h>
+#include <time.h>
+#include "../include/river.h"
+
+river_state_reply plain_start(const uint8_t *, size_t, river_state);
+river_state_reply plain_step(const uint8_t *, size_t, const uint8_t *, size_t, river_state);
+river_forecast_reply plain_forecast(const uint8_t *, size_t, river_state, uint64_t *, size_t);
+river_plan plain_prepare(const uint8_t *, size_t);
+
+enum { MOST_BYTES = 1 << 20, MOST_CALLS = 64, MOST_ROUNDS = 1000 };
+
+/* The river: its table, the records, and the state before each of these. */
+static uint8_t input[MOST_BYTES];
+static size_t table_bytes, record_bytes, calls;
+static const uint8_t *records[MOST_CALLS];
+static river_state states[MOST_CALLS + 1];
+static uint64_t numbers[2][RIVER_MOST_NUMBERS];
+
+static void fail(const char *what)
+{
+    fprintf(stderr, "calls: %s\n", what);
+    exit(1);
+}
+
+/* ---- Both must answer alike ---- */
+
+static river_state same_step(const uint8_t *record, size_t size, river_state state)
+{
+    river_state_reply one = river_step(input, table_bytes, record, size, state), other = plain_step(input, table_bytes, record, size, state);
+    if (memcmp(&one, &other, sizeof one)) fail("the steps differ");
+    return one.state;
+}
+
+static void same_forecast(river_state state, size_t lent)
+{
+    memset(numbers, 0x5A, sizeof numbers);
+    river_forecast_reply one = river_forecast(input, table_bytes, state, numbers[0], lent);
+    river_forecast_reply other = plain_forecast(input, table_bytes, state, numbers[1], lent);
+    if (memcmp(&one, &other, sizeof one) || memcmp(numbers[0], numbers[1], sizeof numbers[0])) fail("the forecasts differ");
+}
+
+static void same_start(size_t size)
+{
+    river_state_reply one = river_start(input, size, states[0]), other = plain_start(input, size, states[0]);
+    if (memcmp(&one, &other, sizeof one)) fail("the starts differ");
+}
+
+/* Makes all calls once, which fills `states`. */
+static void compare_calls(void)
+{
+    same_start(table_bytes - 1);
+    same_start(table_bytes);
+    states[0] = river_start(input, table_bytes, states[0]).state;
+    for (size_t k = 0; k < calls; k++) {
+        states[k + 1] = same_step(records[k], record_bytes, states[k]);
+        if (states[k + 1].steps != k + 1) fail("a record is refused");
+        same_forecast(states[k], RIVER_MOST_NUMBERS);
+        same_forecast(states[k], k);
+        same_step(records[k], record_bytes - 1, states[k]);
+        river_state wrong = states[k];
+        wrong.element[0].figures.variance = 4000000001;
+        same_step(records[k], record_bytes, wrong);
+        same_forecast(wrong, RIVER_MOST_NUMBERS);
+    }
+}
+
+/* ---- Times ---- */
+
+typedef struct {
+    river_state_reply (*start)(const uint8_t *, size_t, river_state);
+    river_state_reply (*step)(const uint8_t *, size_t, const uint8_t *, size_t, river_state);
+    river_forecast_reply (*forecast)(const uint8_t *, size_t, river_state, uint64_t *, size_t);
+    river_plan (*prepare)(const uint8_t *, size_t);
+} Library;
+
+static uint64_t refusals; /* what each call answered is used, so that no call can be left out */
+
+static void start_all(const Library *library)
+{
+    for (size_t k = 0; k < calls; k++) refusals += library->start(input, table_bytes, states[k]).refusal;
+}
+
+static void step_all(const Library *library)
+{
+    for (size_t k = 0; k < calls; k++) refusals += library->step(input, table_bytes, records[k], record_bytes, states[k]).refusal;
+}
+
+static void forecast_all(const Library *library)
+{
+    for (size_t k = 0; k < calls; k++)
+        refusals += library->forecast(input, table_bytes, states[k + 1], numbers[0], RIVER_MOST_NUMBERS).refusal;
+}
+
+static void prepare_all(const Library *library)
+{
+    for (size_t k = 0; k < calls; k++) refusals += library->prepare(input, table_bytes).refusal;
+}
+
+static void same_plan(size_t size)
+{
+    river_plan one = river_prepare(input, size), other = plain_prepare(input, size);
+    if (memcmp(&one, &other, sizeof one)) fail("the plans differ");
+}
+
+static double seconds(void)
+{
+    struct timespec now;
+    clock_gettime(CLOCK_PROCESS_CPUTIME_ID, &now);
+    return (double)now.tv_sec + 1e-9 * (double)now.tv_nsec;
+}
+
+/* Nanoseconds for one call. */
+static double timed(void (*all)(const Library *), const Library *library, int passes)
+{
+    double started = seconds();
+    for (int pass = 0; pass < passes; pass++) all(library);
+    return 1e9 * (seconds() - started) / (double)((size_t)passes * calls);
+}
+
+static int by_size(const void *one, const void *other)
+{
+    double x = *(const double *)one, y = *(const double *)other;
+    return (x > y) - (x < y);
+}
+
+static double median(double *each, int count)
+{
+    qsort(each, (size_t)count, sizeof *each, by_size);
+    return count % 2 ? each[count / 2] : (each[count / 2 - 1] + each[count / 2]) / 2;
+}
+
+static void print_times(const char *entry, void (*all)(const Library *), const Library *libraries, int rounds)
+{
+    static double times[2][MOST_ROUNDS], ratios[MOST_ROUNDS];
+    double once = timed(all, &libraries[1], 3) * (double)calls;
+    int passes = once > 1e6 ? 1 : (int)(1e6 / once) + 1;
+    for (int round = 0; round < rounds; round++) {
+        for (int k = 0; k < 2; k++) times[k][round] = timed(all, &libraries[k], passes);
+        ratios[round] = times[0][round] / times[1][round];
+    }
+    if (refusals) fail("a timed call is refused");
+    printf("%s %.0f %.0f %.3f", entry, median(times[0], rounds), median(times[1], rounds), median(ratios, rounds));
+    printf(" %.0f\n", times[0][0]); /* median has sorted them */
+}
+
+/* ---- The input ---- */
+
+static size_t big_endian(const uint8_t *from, int bytes)
+{
+    size_t value = 0;
+    for (int k = 0; k < bytes; k++) value = value << 8 | from[k];
+    return value;
+}
+
+static void read_river(const char *path)
+{
+    FILE *file = fopen(path, "rb");
+    if (!file) fail("no such file");
+    size_t size = fread(input, 1, MOST_BYTES, file);
+    fclose(file);
+    if (size < 12) fail("no table and record");
+    table_bytes = 4 + big_endian(input, 4);
+    if (table_bytes + 2 > size) fail("the table is cut");
+    record_bytes = 2 + big_endian(input + table_bytes, 2);
+    for (size_t at = table_bytes; at + record_bytes <= size && calls < MOST_CALLS; at += record_bytes) records[calls++] = input + at;
+}
+
+int main(int argc, char **argv)
+{
+    int rounds = argc == 3 ? atoi(argv[2]) : 0;
+    if (rounds < 1 || rounds > MOST_ROUNDS) fail("usage: calls FILE ROUNDS");
+    read_river(argv[1]);
+    compare_calls();
+    Library libraries[2] = {{.start = river_start, .step = river_step, .forecast = river_forecast},
+                            {.start = plain_start, .step = plain_step, .forecast = plain_forecast}};
+    print_times("start", start_all, libraries, rounds);
+    print_times("step", step_all, libraries, rounds);
+    print_times("forecast", forecast_all, libraries, rounds);
+    libraries[0].prepare = river_prepare, libraries[1].prepare = plain_prepare;
+    same_plan(table_bytes - 1);
+    same_plan(table_bytes);
+    print_times("prepare", prepare_all, libraries, rounds);
+    return 0;
+}

@@ -1,0 +1,28 @@
+-- `answer_numbers` meets its contract.
+use Prim.Native.Nat.{_+_, _*_, _≤_}
+use mathlib.Core.Path.{refl}
+use borrow.Author.Needs.{needs}
+use native.Mathlib.Nat.{mul-le-mul}
+use native.Mathlib.Omega.{arith}
+use Rattle.leads.proofs.answer_numbers.Statement.{statement}
+use Rattle.leads.proofs.answer_numbers.Tie as tie
+
+most : (c : tie.Start) → 4 * c .args .elements * (c .args .leads + 1) ≤ 3328
+most c =
+    let l : c .args .leads + 1 ≤ 13 = omega (arith, c .pre .1) in
+    omega (arith, mul-le-mul (c .pre .0) l)
+
+mul-result : tie.Need-mul-result
+mul-result c = search needs
+
+add-result : tie.Need-add-result
+add-result c = search needs
+
+mul-result-2 : tie.Need-mul-result-2
+mul-result-2 c = omega (arith, most c)
+
+returns : tie.Need-returns
+returns c = (refl, most c)
+
+pub answer-numbers-spec : {M : Type 1} → statement M
+answer-numbers-spec = tie.close (tie.spec mul-result add-result mul-result-2 returns)

@@ -1,0 +1,77 @@
+/* Follows a river's outlet through a flood: for each accepted step one line for the last element, with its highest forecast.
+ *
+ *   outlet FILE      FILE holds a table and its records, as the printing program reads them from standard input
+ * A refused call prints its number (document 01, "Numbers for no"). The exit status is 0 where nothing was refused, else 1.
+ */
+#include <inttypes.h>
+#include <stdio.h>
+#include "river.h"
+
+static uint8_t input[1 << 24];
+static uint64_t numbers[RIVER_MOST_NUMBERS]; /* lent to each forecast */
+static river_state river;                    /* before the start it may hold anything */
+
+/* Grains of 0.000001 m3/s, exactly; a margin stands beside each discharge. */
+static void print_discharge(const uint64_t *figures)
+{
+    printf("%" PRIu64 ".%06" PRIu64 " m3/s", figures[0] / 1000000, figures[0] % 1000000);
+    printf(" +- %" PRIu64 ".%06" PRIu64, figures[1] / 1000000, figures[1] % 1000000);
+}
+
+static int refused(uint64_t number)
+{
+    if (number) printf("step %" PRIu64 " refused %" PRIu64 "\n", river.steps, number);
+    return number != 0;
+}
+
+/* The last element's line: an answer holds four numbers for each lead from 0 on, by element. */
+static void print_outlet(size_t count)
+{
+    size_t leads = count / 4 / river.elements - 1, highest = 1;
+    const uint64_t *outlet = numbers + count - 4 * (leads + 1);
+    for (size_t lead = 2; lead <= leads; lead++)
+        if (outlet[4 * lead] > outlet[4 * highest]) highest = lead;
+    printf("step %" PRIu64 ": ", river.steps);
+    print_discharge(outlet);
+    printf(", highest ");
+    print_discharge(outlet + 4 * highest);
+    printf(" at lead %zu\n", highest);
+}
+
+/* How many of the bytes left belong to a table or record that begins with a length field of so many bytes. */
+static size_t whole(const uint8_t *from, size_t left, size_t field)
+{
+    size_t size = 0;
+    if (left < field) return left;
+    for (size_t k = 0; k < field; k++) size = size << 8 | from[k];
+    return size + field < left ? size + field : left;
+}
+
+int main(int argc, char **argv)
+{
+    FILE *file = argc == 2 ? fopen(argv[1], "rb") : NULL;
+    if (!file) {
+        fprintf(stderr, "usage: outlet FILE\n");
+        return 1;
+    }
+    size_t size = fread(input, 1, sizeof input, file), table_bytes = whole(input, size, 4), bytes;
+    int refusals = 0;
+    fclose(file);
+    river_state_reply started = river_start(input, table_bytes, river);
+    river = started.state;
+    if (refused(started.refusal)) return 1;
+    river_plan plan = river_prepare(input, table_bytes);
+    printf("%zu elements, %zu gauges, %zu leads, records of %zu bytes\n", plan.elements, plan.gauges, plan.leads, plan.record_bytes);
+    for (size_t at = table_bytes; at < size; at += bytes) {
+        bytes = whole(input + at, size - at, 2);
+        river_state_reply moved = river_step(input, table_bytes, input + at, bytes, river);
+        river = moved.state; /* a refused step leaves it as it was */
+        refusals += refused(moved.refusal);
+        if (moved.refusal && moved.refusal <= 10) return 1; /* what follows can no longer be told apart */
+        if (moved.refusal) continue;
+        river_forecast_reply ahead = river_forecast(input, table_bytes, river, numbers, RIVER_MOST_NUMBERS);
+        refusals += refused(ahead.refusal);
+        if (!ahead.refusal) print_outlet(ahead.count);
+    }
+    return refusals != 0;
+}

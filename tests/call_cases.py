@@ -1,0 +1,601 @@
+"""The calls that the C interface is tried on, in cases; each case is built from a seed and its number, so that it can be made again by itself.
+
+cases() lists them; nothing is built before it is asked for. What standard input can reach is tried in inputs.py; here is the rest:
+states that no run brings about, lent space, places that no call may touch, and each of rule 16's numbers on the ceiling.
+"""
+from dataclasses import dataclass, replace
+from typing import Callable
+
+from calculator.encode import big_endian, record_bytes, table_bytes
+from calculator.whole_numbers import BASIN, CEILING, GAP, MOST_ELEMENTS, SCALE, Figures, Refused, Rules, State, decode_table, start, step
+from inputs import (SHAPES, SMALL_RECORDS, WAYS, basin, gauge, rule_edits, reach, small_table, some_records, some_table, spoiled,
+                    spoiled_values)
+
+LARGEST = 2 ** 64 - 1
+ROOM_FOR_ALL = 4 * 64 * 13
+
+
+@dataclass(frozen=True)
+class Call:
+    name: str
+    entry: str  # start, step, forecast or prepare
+    table: bytes
+    state: State
+    record: bytes = b""
+    lent: tuple = ()  # the lent numbers before the call
+    side: int = 0  # 0: bytes and numbers stand right before a page without access, 1: right after one
+
+
+@dataclass
+class Case:
+    name: str
+    build: Callable  # of a Random, gives a list of calls
+    exact: bool = False  # a list of calls from a start, which the run in fractions judges too
+
+
+# ---- States ----------------------------------------------------------------------------------------------------------------------------
+
+
+def with_figure(state, place, which, value):
+    numbers = list(state.figures[place].numbers())
+    numbers[which] = value
+    return replace(state, figures=[*state.figures[:place], Figures(*numbers), *state.figures[place + 1:]])
+
+
+def with_rain(state, place, which, value):
+    rains = list(state.rains[place])
+    rains[which] = value
+    return replace(state, rains=[*state.rains[:place], tuple(rains), *state.rains[place + 1:]])
+
+
+def with_number(state, place, which, value):
+    """One of a place's seven numbers changed."""
+    return with_figure(state, place, which, value) if which < 4 else with_rain(state, place, which - 4, value)
+
+
+def state_of(count, steps, figures=(), rains=()):
+    """A state with these figures and rains at its first places and 0 elsewhere."""
+    figures, rains = [Figures(*each) for each in figures], list(map(tuple, rains))
+    return State(count, steps, figures + [Figures(0, 0, 0, 0)] * (MOST_ELEMENTS - len(figures)),
+                 rains + [(0, 0, 0)] * (MOST_ELEMENTS - len(rains)))
+
+
+def noise_state(random):
+    """Anything at all in every place."""
+    def some():
+        return random.choice((0, 1, 3_001, CEILING, CEILING + 1, LARGEST, random.getrandbits(32), random.getrandbits(64)))
+    return State(some(), some(), [Figures(some(), some(), some(), some()) for _ in range(64)], [(some(), some(), some()) for _ in range(64)])
+
+
+def marked_state(random, table, figure, rain, steps):
+    """A state that rule 8 takes, drawn by figure() and rain(); a reach's rains and places beyond N hold anything."""
+    noise, decoded = noise_state(random), decode_table(table)
+    count = len(decoded.elements)
+    figures = [Figures(figure(), figure(), figure(), figure()) for _ in range(count)]
+    rains = [(rain(), rain(), rain()) if element.kind == BASIN else kept for element, kept in zip(decoded.elements, noise.rains)]
+    return State(count, steps, figures + noise.figures[count:], rains + noise.rains[count:])
+
+
+def some_steps(random):
+    return random.choice((0, 1, 2, 3, 4, random.randint(0, 9_999), 9_999, 10_000))
+
+
+def fitting_state(random, table, way="typical"):
+    most = {"typical": 300_000_000, "small": 1_000, "wild": CEILING, "ceiling": CEILING}[way]
+
+    def figure():
+        if way == "ceiling":
+            return random.choice((0, 1, CEILING - 1, CEILING, random.randint(0, CEILING)))
+        return random.randint(0, random.choice((most, most // 50)))
+
+    return marked_state(random, table, figure, lambda: random.choice((0, 1, 2_999, 3_000, random.randint(0, 300))), some_steps(random))
+
+
+# ---- The small river: two basins, two reaches, two gauges --------------------------------------------------------------------------------
+
+SMALL = table_bytes(small_table())
+SMALL_RECORD = record_bytes(*SMALL_RECORDS[0])
+SMALL_NEED = 4 * 4 * 3
+
+
+def lent_numbers(random, size):
+    return tuple(random.getrandbits(random.choice((1, 33, 64))) for _ in range(size))
+
+
+def small_state(random, steps=2):
+    """After a start on noise and some steps: what lies beyond N and in a reach's rain places is anything."""
+    state = start(SMALL, noise_state(random))
+    for k in range(steps):
+        state = step(SMALL, record_bytes(*SMALL_RECORDS[k % 3]), state)
+    return state
+
+
+def both(name, random, state, table=SMALL, record=SMALL_RECORD, room=SMALL_NEED + 3):
+    """A step and a forecast from the same state."""
+    side = random.randrange(2)
+    return [Call(f"{name}, step", "step", table, state, record, lent_numbers(random, 4), side=side),
+            Call(f"{name}, forecast", "forecast", table, state, b"", lent_numbers(random, room), side=side)]
+
+
+# ---- Rules 8 and 9 -----------------------------------------------------------------------------------------------------------------------
+
+
+def counts_and_steps(random):
+    state = small_state(random)
+    for count in (0, 1, 3, 4, 5, 63, 64, 65, 2 ** 32 + 4, 2 ** 63 + 4, LARGEST):
+        yield from both(f"N {count}", random, replace(state, count=count))
+    for steps in (0, 1, 2, 3, 9_998, 9_999, 10_000, 10_001, 10_002, 2 ** 16, 2 ** 32, 2 ** 32 + 2, 2 ** 63, LARGEST):
+        yield from both(f"step count {steps}", random, replace(state, steps=steps))
+
+
+def numbers_of_places(random):
+    """Each of the seven numbers of each of the four elements at its limit and above it."""
+    state = small_state(random)
+    for place in range(4):
+        for which in range(7):
+            limit = CEILING if which < 4 else 3_000
+            for value in (limit - 1, limit, limit + 1, 2 ** 32 + 1, 2 ** 63, LARGEST):
+                yield from both(f"number {which} of place {place} is {value}", random, with_number(state, place, which, value))
+
+
+def numbers_beyond(random):
+    """Each of the seven numbers of the first places beyond N and the last one: anything is allowed there and stays."""
+    state = small_state(random)
+    for place in (4, 5, 62, 63):
+        for which in range(7):
+            value = random.choice((CEILING + 1, 2 ** 32, LARGEST))
+            yield from both(f"number {which} of place {place}, beyond N, is {value}", random, with_number(state, place, which, value))
+
+
+def whole_river_state(random):
+    """N 64 and N 1: the last place of the state read, and the first alone."""
+    for count in (64, 1):
+        table = some_table(random, count, "lone", "typical", leads=1, gauge_count=1)
+        data, record = table_bytes(table), record_bytes(*some_records(random, table, 1, "typical")[0])
+        state, room = replace(fitting_state(random, data), steps=5), 4 * count * 2 + 2
+        yield from both(f"N {count}", random, state, data, record, room)
+        yield from both(f"N {count}, a state of {65 - count}", random, replace(state, count=65 - count), data, record, room)
+        for place in (0, 1, 62, 63):
+            for which in range(7):
+                name = f"N {count}, number {which} of place {place}"
+                yield from both(name, random, with_number(state, place, which, CEILING + 1), data, record, room)
+
+
+def other_river(random):
+    """The state of a river with another table: another N, or a reach where the other has a basin."""
+    mirrored = small_table(elements=[basin(down=3), reach(down=3), reach(down=4), reach()])
+    turned = small_table(elements=[reach(down=3), reach(down=4), reach(down=4), reach()])
+    state = small_state(random)
+    for k, table in enumerate((mirrored, turned, small_table(elements=[basin()], gauges=[gauge(1)]))):
+        data, basins = table_bytes(table), sum(element["kind"] == 1 for element in table["elements"])
+        record = record_bytes((10,) * basins, (GAP,) * len(table["gauges"]))
+        for value in (3_000, 3_001):
+            yield from both(f"other river {k}, second place's rain {value}", random, with_rain(state, 1, 2, value), data, record)
+            yield from both(f"other river {k}, third place's rain {value}", random, with_rain(state, 2, 0, value), data, record)
+        yield Call(f"other river {k}, start", "start", data, state)
+
+
+# ---- Starting ----------------------------------------------------------------------------------------------------------------------------
+
+
+def starts(random):
+    for way in WAYS:
+        table = some_table(random, random.choice((1, 2, 5, 63, 64)), random.choice(SHAPES), way)
+        yield Call(f"start from noise, {way}", "start", table_bytes(table), noise_state(random), side=random.randrange(2))
+    yield Call("start, refused, from noise", "start", SMALL[:-1], noise_state(random))
+
+
+# ---- Lent space --------------------------------------------------------------------------------------------------------------------------
+
+
+def rooms(count, leads):
+    def build(random):
+        data = table_bytes(some_table(random, count, "lone", "zero", leads=leads, gauge_count=0))
+        state, need = replace(fitting_state(random, data, "small"), steps=3), 4 * count * (leads + 1)
+        for room in (0, 1, 4, need - 4, need - 1, need, need + 1, need + 4, need + 100, ROOM_FOR_ALL, ROOM_FOR_ALL + 1):
+            for side in (0, 1):
+                yield Call(f"N {count}, L {leads}, room {room} of {need}", "forecast", data, state, b"", lent_numbers(random, room), side)
+    return build
+
+
+def refused_rooms(random):
+    """Rule 15 with 4 and 8, which are lower, and with 16, which is higher."""
+    slow = table_bytes(dict(T=1, L=12, elements=[reach(lag=60_000, W=100_000_000)], gauges=[]))
+    over = state_of(1, 3, [(5, 6, CEILING, 7)])
+    for room in (0, 51, 52, 53):
+        yield Call(f"16 with room {room} of 52", "forecast", slow, over, b"", lent_numbers(random, room))
+        yield Call(f"8 with room {room} of 52", "forecast", slow, replace(over, steps=10_001), b"", lent_numbers(random, room))
+        yield Call(f"4 with room {room} of 52", "forecast", slow[:9] + b"\1" + slow[10:], over, b"", lent_numbers(random, room))
+
+
+# ---- The rain mean of a forecast -----------------------------------------------------------------------------------------------------------
+
+
+def rain_means(random):
+    """c 0 to 3: the rains that count are the last c, also where the state holds others."""
+    for steps in (0, 1, 2, 3, 4, 9_999, 10_000):
+        for rains in ((100, 0, 0), (0, 100, 0), (0, 0, 100), (1, 10, 100), (3_000, 3_000, 3_000), (0, 0, 1), (1, 1, 2)):
+            table = table_bytes(dict(T=60, L=3, elements=[basin(down=2, area=700, f=333, G=1_000), reach()], gauges=[]))
+            state = state_of(2, steps, [(1_000_000, 5, 300, 2)], [rains, (LARGEST, 3_001, 7)])
+            yield Call(f"step count {steps}, rains {rains}", "forecast", table, state, b"", lent_numbers(random, 34), random.randrange(2))
+
+
+# ---- Rule 16, number by number -----------------------------------------------------------------------------------------------------------
+
+
+class Watched(Rules):
+    """The rules with each of rule 16's numbers shown to watch(name, number), which refuses or not."""
+
+    def watch(self, name, number):
+        raise NotImplementedError
+
+    def watch_all(self, kind, figures):
+        for name, number in zip(("", " margin", " variance", " variance margin"), figures.numbers()):
+            self.watch(kind + name, number)
+
+    def blend(self, x, x_margin, y, y_margin, weight, weight_margin):
+        value = (weight * x + (SCALE - weight) * y) // SCALE
+        spread = weight_margin * (abs(x - y) + x_margin + y_margin) // SCALE
+        return value, (weight * x_margin + (SCALE - weight) * y_margin) // SCALE + spread + 3
+
+    def move(self, element, weight, old, inflow):
+        self.watch_all("basin inflow" if element.kind == BASIN else "reach inflow", inflow)
+        discharge, margin = self.blend(old.discharge, old.margin, inflow.discharge, inflow.margin, weight, 3)
+        a, a_margin = self.blend(old.variance, old.variance_margin, 0, 0, weight, 3)
+        b, b_margin = self.blend(inflow.variance, inflow.variance_margin, 0, 0, SCALE - weight, 3)
+        self.watch("margin of a", a_margin)
+        self.watch("margin of b", b_margin)
+        variance, variance_margin = self.blend(a, a_margin, b, b_margin, weight, 3)
+        moved = Figures(discharge, margin, variance + element.system_noise, variance_margin)
+        self.watch_all("moved", moved)
+        return moved
+
+    def correct(self, figures, z, noise):
+        total = figures.variance + noise
+        gain_margin = min(SCALE, SCALE * figures.variance_margin // total + 2)
+        discharge, margin = self.blend(figures.discharge, figures.margin, z, 1, SCALE - SCALE * figures.variance // total, gain_margin)
+        corrected = Figures(discharge, margin, figures.variance * noise // total, figures.variance_margin * noise // total + 2)
+        self.watch_all("corrected", corrected)
+        return corrected
+
+
+class Reading(Watched):
+    """Notes the highest of the numbers of one name and refuses nothing by rule 16."""
+
+    def __init__(self, name):
+        self.name, self.highest = name, 0
+
+    def watch(self, name, number):
+        if name == self.name:
+            self.highest = max(self.highest, number)
+
+
+def watched_number(name, call):
+    reading = Reading(name)
+    if call.entry == "step":
+        reading.step(call.table, call.record, call.state)
+    else:
+        reading.forecast(call.table, call.state, call.lent)
+    return reading.highest
+
+
+def edge_calls(watched, make):
+    """make(p) for the p at which the watched number, which rises with p from 0 to C, is C, just below and just above."""
+    for target in (CEILING, CEILING + 1):
+        low, high = 0, CEILING
+        while low < high:
+            middle = (low + high) // 2
+            low, high = (low, middle) if watched_number(watched, make(middle)) >= target else (middle + 1, high)
+        assert watched_number(watched, make(low)) == target, f"{watched}: {target} is not met"
+        for p in (low - 1, low, low + 1):
+            call = make(p)
+            yield replace(call, name=f"{watched}, {call.entry}: C {watched_number(watched, call) - CEILING:+}")
+
+
+SLOW = dict(T=1, L=1, gauges=[])  # with a lag of 60,000 minutes an element keeps nearly all it has
+
+
+def slow_reaches(count, **rest):
+    """All but the last drain into the last."""
+    return table_bytes(SLOW | dict(elements=[reach(down=count * (k < count), lag=60_000) for k in range(1, count + 1)]) | rest)
+
+
+def single(which, value):
+    numbers = [0, 0, 0, 0]
+    numbers[which] = value
+    return tuple(numbers)
+
+
+def inflow_edges(which, entry):
+    """Two reaches drain into a third: the sum of one of their four figures."""
+    table, name = slow_reaches(3), "reach inflow" + ("", " margin", " variance", " variance margin")[which]
+
+    def build(random):
+        lent = lent_numbers(random, 24 + 2)
+        return edge_calls(name, lambda p: Call(name, entry, table, state_of(3, 3, [single(which, CEILING), single(which, p)]),
+                                               record_bytes((), ()), lent if entry == "forecast" else ()))
+    return build
+
+
+def margin_edges(entry):
+    """The margin of a discharge: an old margin and an inflow margin near C, or a wide gap between old discharge and inflow."""
+    table = slow_reaches(3)
+
+    def build(random):
+        lent = lent_numbers(random, 24) if entry == "forecast" else ()
+
+        def call(discharge, margin):
+            state = state_of(3, 3, [(0, CEILING, 0, 0), (0, 66_000, 0, 0), (discharge, margin, 0, 0)])
+            return Call(f"moved margin, {margin} and discharge {discharge}", entry, table, state, record_bytes((), ()), lent)
+
+        yield from edge_calls("moved margin", lambda p: call(0, p))
+        for margin in range(CEILING - 16, CEILING + 1):
+            for discharge in (0, 10 ** 9, 2 * 10 ** 9, 3 * 10 ** 9, CEILING):
+                yield call(discharge, margin)
+    return build
+
+
+def variance_edges(entry, kind, leads=1):
+    """A variance with its noise W; at a forecast of several leads the last one alone passes C."""
+    element = dict(reach(lag=60_000, W=100_000_000)) if kind == "reach" else basin(lag=60_000, area=1, W=100_000_000, G=100_000_000)
+    table = table_bytes(SLOW | dict(elements=[element], L=leads))
+
+    def build(random):
+        lent = lent_numbers(random, 4 * (leads + 1) + 1) if entry == "forecast" else ()
+        record = record_bytes((1,) * (kind == "basin"), ())
+        return edge_calls("moved variance", lambda p: Call("", entry, table, state_of(1, 3, [(1, 2, p, 4)]), record, lent))
+    return build
+
+
+def late_inflow_edges(leads):
+    """The inflow variance of a reach, above C at the last lead alone; all that stands before that reach in the answer is accepted."""
+    elements = [reach(lag=60_000, W=1_000), reach(down=4, lag=60_000, W=90_000_000), reach(down=4, lag=60_000, W=70_000_000), reach(lag=60_000)]
+    table = table_bytes(SLOW | dict(elements=elements, L=leads))
+
+    def build(random):
+        lent = lent_numbers(random, 16 * (leads + 1))
+        return edge_calls("reach inflow variance", lambda p: Call("", "forecast", table, state_of(4, 3, [
+            (0, 0, 0, 0), (0, 0, 300_000_000, 0), (0, 0, p, 0)]), b"", lent))
+    return build
+
+
+def correction_edges(random):
+    """The margin of a corrected discharge, by the gap and by the margin before it; its gain margin is S."""
+    table = table_bytes(SLOW | dict(elements=[reach(lag=60_000)], gauges=[gauge(1, R=1, pieces=[(30_001, 1, 0)])]))
+    for stage, margin in ((0, 1_000_000), (30_000, 900_123), (0, CEILING // 2)):
+        record = record_bytes((), (stage,))
+        yield from edge_calls("corrected margin", lambda p: Call("", "step", table, state_of(1, 3, [(p, margin, 0, 10)]), record))
+
+
+# (rains, area, f, inflow less C) by c: [5 s area f / (18 c)] is C exactly, C and the highest rest, C + 1, C + 1 and the highest rest.
+RAIN_EDGES = {1: (((3_000,), 4_800, 1_000, 0), ((1_821,), 9_679, 817, 0), ((1_009,), 274_453, 52, 1), ((193,), 75_289, 991, 1)),
+              2: (((3_000, 3_000), 4_800, 1_000, 0), ((1_000, 9), 274_453, 104, 1), ((380, 6), 75_289, 991, 1)),
+              3: (((3_000, 3_000, 3_000), 4_800, 1_000, 0), ((785, 3_000, 3_000), 9_902, 643, 0), ((1, 8, 1_000), 274_453, 156, 1),
+                  ((579, 0, 0), 75_289, 991, 1))}
+
+
+def rain_edges(random):
+    """The inflow of a basin by the rain of a step and by the mean of a forecast."""
+    for c, edges in RAIN_EDGES.items():
+        for rains, area, f, over in edges:
+            table = table_bytes(dict(T=60, L=2, elements=[basin(area=area, f=f)], gauges=[]))
+            more = tuple(random.choice((0, 3_000)) for _ in range(3 - c))  # rains that do not count
+            for steps in ((c,) if c < 3 else (3, 4, 10_000)):
+                call = Call(f"rain inflow of a lead, c {c}: C {over:+}", "forecast", table, state_of(1, steps, rains=[rains + more]), b"",
+                            lent_numbers(random, 13))
+                assert watched_number("basin inflow", call) == CEILING + over
+                yield call
+            if c == 1:
+                yield Call(f"rain inflow of a step: C {over:+}", "step", table, state_of(1, 9), record_bytes(rains, ()))
+    huge = table_bytes(dict(T=60, L=1, elements=[basin(area=400_000)], gauges=[]))
+    for steps, rains in ((0, (3_000, 3_000, 3_000)), (1, (3_000, 0, 0)), (1, (0, 3_000, 3_000)), (2, (0, 0, 3_000)), (3, (0, 0, 3_000))):
+        yield Call(f"largest basin, step count {steps}, rains {rains}", "forecast", huge, state_of(1, steps, rains=[rains]), b"", (1,) * 9)
+
+
+def all_at_ceiling(random):
+    """The numbers that stay below C whatever the state (margins of a and b, variance margin, a corrected variance's): as high as they go."""
+    for lag in (1, 2, 60_000):
+        for R in (1, CEILING):
+            for full in ((0, 0, 0, CEILING), (0, 0, CEILING, CEILING), (CEILING, 0, CEILING, CEILING), (0, 0, CEILING, 0)):
+                elements = [reach(down=2, lag=lag), reach(lag=lag)]
+                table = table_bytes(SLOW | dict(elements=elements, gauges=[gauge(2, R=R, pieces=[(30_001, 1_000_000, 0)])]))
+                for stage in (0, 2_000, GAP):
+                    yield from both(f"lag {lag}, R {R}, {full}", random, state_of(2, 3, [full, full]), table, record_bytes((), (stage,)), 16)
+
+
+# ---- Tables and records, cut and spoiled ---------------------------------------------------------------------------------------------------
+
+
+def edited_calls(edit):
+    def build(random):
+        table, records = small_table(), list(SMALL_RECORDS)
+        edit(table, records)
+        data, state = table_bytes(table), small_state(random, 1)
+        record = record_bytes(*next((new for new, old in zip(records, SMALL_RECORDS) if new != old), SMALL_RECORDS[1]))
+        yield Call("start", "start", data, noise_state(random), side=random.randrange(2))
+        yield from both("edited", random, replace(state, count=len(table["elements"])), data, record, room=4 * 4 * 13)
+    return build
+
+
+def cut_calls(random):
+    state = small_state(random)
+    for size in range(len(SMALL)):
+        entry = ("start", "step", "forecast")[size % 3] if size > 12 else "start"
+        yield Call(f"table cut at {size}", entry, SMALL[:size], state, SMALL_RECORD, lent_numbers(random, 48), random.randrange(2))
+    for extra in (1, 2, 26, 46, 3_000):
+        for told in (len(SMALL) - 4, len(SMALL) - 4 + extra):
+            yield Call(f"table longer by {extra}", "start", big_endian(told, 4) + SMALL[4:] + bytes(extra), state)
+    for size in range(len(SMALL_RECORD)):
+        yield Call(f"record cut at {size}", "step", SMALL, state, SMALL_RECORD[:size], side=random.randrange(2))
+        told = big_endian(max(0, size - 2), 2) + SMALL_RECORD[2:size]
+        yield Call(f"record cut at {size}, as its length says", "step", SMALL, state, told, side=random.randrange(2))
+    for extra in (1, 2, 4, 65_535 - 9):
+        for told in (9, 9 + extra):
+            yield Call(f"record longer by {extra}", "step", SMALL, state, big_endian(told, 2) + SMALL_RECORD[2:] + bytes(extra))
+    yield Call("record of 65,538 bytes, length 0", "step", SMALL, state, big_endian(0, 2) + bytes(65_536))
+
+
+def spoiled_calls(random):
+    state = small_state(random)
+    for at in range(len(SMALL)):
+        value = random.choice(spoiled_values(SMALL[at]))
+        entry = random.choice(("start", "step", "forecast"))
+        yield Call(f"table spoiled at {at} by {value}", entry, spoiled(SMALL, at, value), state, SMALL_RECORD, lent_numbers(random, 208))
+    for at in range(len(SMALL_RECORD)):
+        for value in spoiled_values(SMALL_RECORD[at]):
+            yield Call(f"record spoiled at {at} by {value}", "step", SMALL, state, spoiled(SMALL_RECORD, at, value))
+
+
+def empty_calls(random):
+    state = small_state(random)
+    for side in (0, 1):
+        for entry in ("start", "step", "forecast"):
+            yield Call(f"no table, {entry}", entry, b"", state, SMALL_RECORD, lent_numbers(random, 48), side)
+            yield Call(f"nothing, {entry}", entry, b"", state, side=side)
+        yield Call("no record", "step", SMALL, state, side=side)
+        yield Call("no room", "forecast", SMALL, state, side=side)
+
+
+# ---- Several refusals at once: the lowest wins ----------------------------------------------------------------------------------------------
+
+
+def several_refusals(random):
+    edits = [(rule, edit) for rule, edit in rule_edits() if rule < 10 or random.random() < 0.5]
+    for _ in range(12):
+        table, records = small_table(), list(SMALL_RECORDS)
+        picked = random.sample(edits, random.choice((0, 0, 1, 2)))
+        for _, edit in picked:
+            edit(table, records)
+        state = small_state(random)
+        if random.random() < 0.6:
+            state = random.choice((replace(state, steps=10_000), replace(state, steps=10_001), replace(state, count=5),
+                                   with_rain(state, 1, 1, 3_001), with_figure(state, 2, 3, CEILING + 1),
+                                   replace(with_figure(state, 3, 0, CEILING + 1), steps=10_000)))
+        else:
+            state = with_figure(with_figure(with_figure(state, 0, 1, CEILING), 1, 1, CEILING), 2, 1, CEILING)  # 16
+        version, rain, stage = random.choice((1, 1, 2)), random.choice((3_000, 3_001)), random.choice((GAP, 499, 30_001))
+        record = random.choice((record_bytes((rain, 0), (stage, GAP), version), record_bytes((0, rain), (stage, 30_001), version),
+                                record_bytes((rain,), (stage, GAP), version), b"\0"))
+        yield from both("several", random, state, table_bytes(table), record, random.choice((0, 47, 48, 60)))
+
+
+# ---- Random rivers, states and calls ---------------------------------------------------------------------------------------------------------
+
+
+def random_calls(count=None):
+    def build(random):
+        table = some_table(random, count or random.choice((1, 2, 3, 4, 5, 8)), random.choice(SHAPES), random.choice(WAYS),
+                           leads=None if not count else random.choice((1, 2, 12)))
+        data, record = table_bytes(table), record_bytes(*some_records(random, table, 1, random.choice(("typical", "wild")))[0])
+        state = fitting_state(random, data, random.choice(("typical", "typical", "small", "small", "wild", "ceiling")))
+        for _ in range(random.choice((0, 0, 0, 1, 2))):  # one number beyond its range, or not in use
+            place, which = random.randrange(min(64, state.count + 2)), random.randrange(7)
+            state = with_number(state, place, which, random.getrandbits(random.choice((33, 64))))
+        room = 4 * len(table["elements"]) * (table["L"] + 1) + random.choice((-1, 0, 0, 1, 5))
+        yield from both("random", random, state, data, record, room)
+    return build
+
+
+def noise_calls(random):
+    """Any state and any bytes."""
+    for entry in ("start", "step", "forecast"):
+        one = big_endian(32, 4) + bytes([1, 0, 60, 1, 1, 0]) + random.randbytes(26)
+        table, record = random.choice((SMALL, random.randbytes(random.randrange(60)), one)), random.randbytes(random.randrange(12))
+        yield Call("noise", entry, table, noise_state(random), record, lent_numbers(random, random.randrange(60)))
+
+
+def run_calls(count=None):
+    """A start and some steps, with a forecast after each: the state of a call is what the calculator gave to the one before."""
+    def build(random):
+        size = count or random.choice((1, 2, 3, 4))
+        way = random.choice(("typical", "typical", "zero", "ceiling"))
+        table = some_table(random, size, random.choice(SHAPES), way, leads=random.choice((1, 2, 3)))
+        data, state = table_bytes(table), noise_state(random)
+        yield Call("start", "start", data, state)
+        try:
+            state = start(data, state)
+            for given in some_records(random, table, 4, "typical"):
+                room = 4 * size * (table["L"] + 1)
+                yield Call("forecast", "forecast", data, state, b"", lent_numbers(random, room + 1))
+                yield Call("step", "step", data, state, record_bytes(*given))
+                state = step(data, record_bytes(*given), state)
+            yield Call("forecast", "forecast", data, state, b"", lent_numbers(random, room + 1))
+        except Refused:
+            return
+    return build
+
+
+# ---- The calls that crates/entry_tests made --------------------------------------------------------------------------------------------------
+
+TWO = table_bytes(dict(T=60, L=1, elements=[basin(down=2), reach(lag=120, first_discharge=2_000_000, first_variance=400, W=50)],
+                       gauges=[gauge(2)]))
+ONE = table_bytes(dict(T=60, L=1, elements=[basin(area=400_000)], gauges=[]))
+
+
+def entry_calls():
+    """By number of the call in crates/entry_tests."""
+    marked = State(7, 77, [Figures(1001, 1002, 1003, 1004)] * 64, [(11, 12, 13)] * 64)
+    good, first = bytes([0, 5, 1, 0, 100, 5, 120]), start(TWO, marked)
+    s = step(TWO, good, first)
+    states = {3: replace(s, count=3), 4: replace(s, steps=10_001), 5: replace(s, steps=10_000), 10: with_figure(s, 1, 0, CEILING),
+              14: with_rain(s, 1, 0, 3_001), 15: with_figure(s, 2, 2, CEILING + 1)}
+    states |= {6 + which: with_figure(s, 1, which, CEILING + 1) for which in range(4)}
+    states |= {11 + which: with_rain(s, 0, which, 3_001) for which in range(3)}
+    records = {19: [0, 5], 20: [0, 5, 2, 0, 100, 5, 120], 21: [0, 5, 1, 11, 185, 117, 49], 22: [0, 5, 1, 0, 100, 117, 49],
+               23: [0, 5, 1, 0, 100, 1, 243], 24: [0, 5, 1, 0, 100, 255, 255]}
+    yield Call("entry call 1", "start", TWO, marked)
+    yield Call("entry call 2", "step", TWO, first, good)
+    yield Call("entry call 16", "step", ONE, s, bytes([0, 3, 1, 0, 100]))
+    yield Call("entry call 17", "start", ONE, s)
+    yield Call("entry call 18", "step", ONE, start(ONE, s), bytes([0, 3, 1, 11, 184]))
+    for number in sorted({*states, *records}):
+        yield Call(f"entry call {number}", "step", TWO, states.get(number, s), bytes(records.get(number, good)))
+
+
+# ---- The list ----------------------------------------------------------------------------------------------------------------------------
+
+
+def prepare_calls(random):
+    """The plan of tables of every kind, for as many elements, leads and gauges as there can be."""
+    nothing = noise_state(random)
+    for count, leads, gauge_count in ((1, 1, 0), (2, 12, 2), (64, 1, 16), (64, 12, 0), (5, 3, 5)):
+        table = some_table(random, count, random.choice(SHAPES), "typical", leads=leads, gauge_count=gauge_count)
+        yield Call(f"N {count}, L {leads}, M {gauge_count}", "prepare", table_bytes(table), nothing, side=random.randrange(2))
+    for size in range(len(SMALL) + 1):
+        yield Call(f"table cut at {size}", "prepare", SMALL[:size], nothing, side=random.randrange(2))
+    for _, edit in rule_edits():
+        table = small_table()
+        edit(table, list(SMALL_RECORDS))
+        yield Call("edited", "prepare", table_bytes(table), nothing)
+
+
+def ceiling_cases():
+    for entry in ("step", "forecast"):
+        for which in range(4):
+            yield f"inflow {which}, {entry}", inflow_edges(which, entry)
+        yield f"discharge margin, {entry}", margin_edges(entry)
+        for kind in ("reach", "basin"):
+            yield f"variance of a {kind}, {entry}", variance_edges(entry, kind)
+    for leads in (2, 3, 12):
+        yield f"variance at lead {leads} alone", variance_edges("forecast", "reach", leads)
+        yield f"variance of a basin at lead {leads} alone", variance_edges("forecast", "basin", leads)
+        yield f"inflow variance at lead {leads} alone", late_inflow_edges(leads)
+    yield "margin of a correction", correction_edges
+    yield "rain", rain_edges
+    yield "highest numbers that stay below", all_at_ceiling
+
+
+def cases():
+    found = [Case(call.name, lambda random, call=call: [call]) for call in entry_calls()]
+    found += [Case(f"ceiling: {name}", build) for name, build in ceiling_cases()]
+    for build in (counts_and_steps, numbers_of_places, numbers_beyond, whole_river_state, other_river, starts, refused_rooms, rain_means,
+                  cut_calls, spoiled_calls, empty_calls):
+        found.append(Case(build.__name__.replace("_", " "), build))
+    found += [Case(f"rooms of {count} elements and {leads} leads", rooms(count, leads)) for count in (1, 4, 64) for leads in (1, 12)]
+    found += [Case(f"rule {rule}", edited_calls(edit)) for rule, edit in rule_edits()]
+    for name, build, count in (("several refusals", several_refusals, 25), ("random", random_calls(), 700),
+                               ("random, 64 elements", random_calls(64), 24), ("noise", noise_calls, 60)):
+        found += [Case(name, build) for _ in range(count)]
+    found += [Case("run", run_calls(), exact=True) for _ in range(40)] + [Case("run of 12", run_calls(12), exact=True) for _ in range(2)]
+    found.append(Case("prepare", prepare_calls))
+    return found

@@ -1,0 +1,116 @@
+/* Makes the calls of include/river.h that tests/calls.py sends on standard input and writes what comes back.
+ *
+ *   gcc -O2 -Iinclude tests/calls.c target/staticlib/libcapi.a
+ *
+ * A call: five numbers of 8 bytes in the machine's order (entry, side, bytes of table, bytes of record, numbers lent), then the table's
+ * bytes, the record's bytes, the 450 numbers of the state and the lent numbers. A reply: refusal, count, whether all that the
+ * host keeps stayed as it was, how many numbers follow, and these: the 450 of the state (start, step), all that were lent (forecast), or
+ * the plan's six after its refusal (prepare).
+ *
+ * Table, record and lent numbers each end where a page without access begins (side 0) or begin where one ends (side 1), so that a read
+ * or write past that end ends this program by a signal.
+ */
+#define _GNU_SOURCE
+#include <stdio.h>
+#include <stdlib.h>
+#include <string.h>
+#include <sys/mman.h>
+#include "river.h"
+
+enum { START = 1, STEP = 2, FORECAST = 3, PREPARE = 4 };
+enum { PAGE = 4096, ROOM = 128 * 1024, MARK = 0xA5, STATE_NUMBERS = 450 };
+_Static_assert(sizeof(river_state) == 8 * STATE_NUMBERS, "a state is 450 numbers");
+
+/* ROOM bytes between two pages without access; `copy` is what they held before the call. */
+typedef struct {
+    uint8_t *room, *at, copy[ROOM];
+    size_t size;
+} Lent;
+
+static void make_room(Lent *lent)
+{
+    uint8_t *all = mmap(NULL, ROOM + 2 * PAGE, PROT_READ | PROT_WRITE, MAP_PRIVATE | MAP_ANONYMOUS, -1, 0);
+    if (all == MAP_FAILED || mprotect(all, PAGE, PROT_NONE) || mprotect(all + PAGE + ROOM, PAGE, PROT_NONE)) exit(2);
+    lent->room = all + PAGE;
+}
+
+static void read_whole(void *into, size_t size)
+{
+    if (size && fread(into, 1, size, stdin) != size) exit(2);
+}
+
+/* Fills the room with marks and puts the next `size` bytes of standard input at one end of it. */
+static void take(Lent *lent, size_t size, int side)
+{
+    if (size > ROOM) exit(2);
+    lent->size = size;
+    lent->at = side ? lent->room : lent->room + ROOM - size;
+    memset(lent->room, MARK, ROOM);
+    read_whole(lent->at, size);
+    memcpy(lent->copy, lent->room, ROOM);
+}
+
+/* Whether all of the room is as before, or all but the lent part. */
+static int stayed(const Lent *lent) { return !memcmp(lent->room, lent->copy, ROOM); }
+
+static int stayed_around(const Lent *lent)
+{
+    size_t before = (size_t)(lent->at - lent->room), after = before + lent->size;
+    return !memcmp(lent->room, lent->copy, before) && !memcmp(lent->room + after, lent->copy + after, ROOM - after);
+}
+
+static void reply(uint64_t refusal, uint64_t count, uint64_t kept, uint64_t size, const void *numbers)
+{
+    uint64_t head[4] = {refusal, count, kept, size};
+    fwrite(head, 8, 4, stdout);
+    fwrite(numbers, 8, size, stdout);
+    fflush(stdout);
+}
+
+static Lent table, record, numbers;
+static river_state state, state_before;
+
+static int host_memory_stayed(void)
+{
+    return stayed(&table) && stayed(&record) && stayed_around(&numbers) && !memcmp(&state, &state_before, sizeof state);
+}
+
+static void state_call(uint64_t entry)
+{
+    river_state_reply got = entry == START ? river_start(table.at, table.size, state)
+                                           : river_step(table.at, table.size, record.at, record.size, state);
+    reply(got.refusal, 0, host_memory_stayed() && stayed(&numbers), STATE_NUMBERS, &got.state);
+}
+
+static void forecast_call(void)
+{
+    river_forecast_reply got = river_forecast(table.at, table.size, state, (uint64_t *)numbers.at, numbers.size / 8);
+    reply(got.refusal, got.count, host_memory_stayed(), numbers.size / 8, numbers.at);
+}
+
+static void prepare_call(void)
+{
+    river_plan got = river_prepare(table.at, table.size);
+    uint64_t plan[6] = {got.elements, got.leads, got.gauges, got.basins, got.record_bytes, got.forecast_numbers};
+    reply(got.refusal, 0, host_memory_stayed() && stayed(&numbers), 6, plan);
+}
+
+int main(void)
+{
+    uint64_t head[5];
+    make_room(&table), make_room(&record), make_room(&numbers);
+    while (fread(head, 8, 5, stdin) == 5) {
+        take(&table, head[2], head[1] == 1);
+        take(&record, head[3], head[1] == 1);
+        read_whole(&state, sizeof state);
+        state_before = state;
+        take(&numbers, 8 * head[4], head[1] == 1);
+        switch (head[0]) {
+        case START: case STEP: state_call(head[0]); break;
+        case FORECAST: forecast_call(); break;
+        case PREPARE: prepare_call(); break;
+        default: return 2;
+        }
+    }
+    return 0;
+}

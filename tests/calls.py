@@ -1,0 +1,228 @@
+#!/usr/bin/env python3
+"""Tries the C interface (include/river.h) on generated calls and compares every number of every reply with the calculator's.
+
+    rt staticlib capi
+    python3 tests/calls.py [--seed S] [--only K] [library]
+
+The library is target/staticlib/libcapi.a unless another path is given; tests/calls.c is linked with it (gcc) and makes the calls. Compared
+are the refusal, all 450 numbers of the state or the count and all lent numbers, and whether the host's own memory stayed as it was. Runs
+from a start are judged by the run in fractions too. The last line is "calls: N calls in M cases, F failed"; the exit code is 0 only where
+none failed. A failed case can be made again by its seed and number.
+"""
+import argparse
+import subprocess
+import sys
+import time
+from array import array
+from dataclasses import dataclass
+from pathlib import Path
+
+from call_cases import cases
+from calculator.fractions_run import ExactNumbers, EnclosedNumbers, FractionsRun
+from calculator.whole_numbers import RULES, Refused, decode_table
+from inputs import random_for
+
+ROOT = Path(__file__).resolve().parent.parent
+ENTRIES = {"start": 1, "step": 2, "forecast": 3, "prepare": 4}
+MOST_SHOWN = 20  # failed cases that are told of
+TIME_LIMIT = 60  # seconds for all calls
+
+
+@dataclass
+class Reply:
+    refusal: int
+    count: int  # numbers written by a forecast
+    kept: int  # 1: all that the host keeps stayed as it was
+    numbers: array  # the state's, all that were lent, or the plan's
+
+
+def state_numbers(state):
+    numbers = array("Q", (state.count, state.steps))
+    for figures, rains in zip(state.figures, state.rains):
+        numbers.extend(figures.numbers())
+        numbers.extend(rains)
+    return numbers
+
+
+class Library:
+    """What river.h promises, worked out by the calculator; tests/mutants.py makes wrong libraries of it."""
+
+    def __init__(self, rules=RULES):
+        self.rules = rules
+
+    def reply(self, call):
+        try:
+            return getattr(self, call.entry)(call)
+        except Refused as refused:
+            return self.refused(call, refused.number)
+
+    def refused(self, call, number):
+        if call.entry == "forecast":
+            return Reply(number, 0, 1, array("Q", call.lent))
+        return Reply(number, 0, 1, state_numbers(call.state) if call.entry != "prepare" else array("Q", [0] * 6))
+
+    def start(self, call):
+        return Reply(0, 0, 1, state_numbers(self.rules.start(call.table, call.state)))
+
+    def step(self, call):
+        return Reply(0, 0, 1, state_numbers(self.rules.step(call.table, call.record, call.state)))
+
+    def forecast(self, call):
+        count, numbers = self.rules.forecast(call.table, call.state, call.lent)
+        return Reply(0, count, 1, array("Q", numbers))
+
+    def prepare(self, call):
+        table = decode_table(call.table)
+        count, leads, gauges, basins = len(table.elements), table.leads, len(table.gauges), table.basins
+        return Reply(0, 0, 1, array("Q", (count, leads, gauges, basins, 3 + 2 * basins + 2 * gauges, 4 * count * (leads + 1))))
+
+
+# ---- The built library -------------------------------------------------------------------------------------------------------------------
+
+
+def built_driver(library):
+    driver = ROOT / "target/tests/calls"
+    driver.parent.mkdir(parents=True, exist_ok=True)
+    command = ["gcc", "-O2", "-Wall", "-Wextra", f"-I{ROOT / 'include'}", "-o", driver, ROOT / "tests/calls.c", library]
+    subprocess.run(command, check=True)
+    return driver
+
+
+def call_bytes(call):
+    head = array("Q", (ENTRIES[call.entry], call.side, len(call.table), len(call.record), len(call.lent)))
+    return head.tobytes() + call.table + call.record + state_numbers(call.state).tobytes() + array("Q", call.lent).tobytes()
+
+
+def replies_in(data):
+    """The driver's replies, as many as it wrote whole."""
+    at = 0
+    while at + 32 <= len(data):
+        refusal, count, kept, size = array("Q", data[at:at + 32])
+        at += 32
+        if at + 8 * size > len(data):
+            return
+        yield Reply(refusal, count, kept, array("Q", data[at:at + 8 * size]))
+        at += 8 * size
+
+
+def driver_output(driver, calls):
+    try:
+        return subprocess.run([driver], input=b"".join(map(call_bytes, calls)), stdout=subprocess.PIPE, timeout=TIME_LIMIT).stdout
+    except subprocess.TimeoutExpired as expired:
+        return expired.output or b""
+
+
+def made_calls(driver, calls):
+    """The reply to each call; None for one that ended the driver, which is then started again (not more often than failures are shown)."""
+    replies = []
+    for _ in range(MOST_SHOWN):
+        replies += replies_in(driver_output(driver, calls[len(replies):]))
+        if len(replies) >= len(calls):
+            return replies
+        replies.append(None)
+    return replies + [None] * (len(calls) - len(replies))
+
+
+# ---- The comparison ----------------------------------------------------------------------------------------------------------------------
+
+
+def complaint(expected, reply):
+    """What is wrong with a reply; None where nothing is."""
+    if reply is None:
+        return "ended the driver: a read or write outside the lent memory, or no end"
+    for name in ("refusal", "count", "kept"):
+        if getattr(reply, name) != getattr(expected, name):
+            return f"{name} {getattr(reply, name)}, not {getattr(expected, name)}"
+    if reply.numbers == expected.numbers:
+        return None
+    if len(reply.numbers) != len(expected.numbers):
+        return f"{len(reply.numbers)} numbers, not {len(expected.numbers)}"
+    at, got, right = next((at, *pair) for at, pair in enumerate(zip(reply.numbers, expected.numbers)) if pair[0] != pair[1])
+    return f"number {at} is {got}, not {right}"
+
+
+def handed_out(call, reply, run):
+    """(figure, margin, exact) of all that an accepted call of a run hands out."""
+    if call.entry == "forecast":
+        by_lead = run.forecast()
+        rows = [(reply.numbers[at:at + 4], *divmod(at // 4, len(by_lead))) for at in range(0, reply.count, 4)]
+    else:
+        by_lead = [run.figures]
+        rows = [(reply.numbers[2 + 7 * place:6 + 7 * place], place, 0) for place in range(len(run.figures))]
+    for row, place, lead in rows:
+        discharge, variance = by_lead[lead][place]
+        yield row[0], row[1], discharge
+        yield row[2], row[3], variance
+
+
+def exact_complaint(calls, replies):
+    """The first figure of a run from a start that is not within its margin of the run in fractions, and how many were compared."""
+    numbers = ExactNumbers() if calls[0].table[8] <= 4 else EnclosedNumbers()
+    run, compared = FractionsRun(calls[0].table, numbers), 0
+    for place, (call, reply) in enumerate(zip(calls, replies)):
+        if reply.refusal:
+            continue
+        if call.entry == "step":
+            run.step(call.record)
+        for figure, margin, exact in handed_out(call, reply, run):
+            compared += 1
+            if not numbers.within(figure, exact, margin):
+                return f"call {place}: {figure} is not within {margin} of the run in fractions", compared
+    return None, compared
+
+
+def compare(case, calls, expected, replies):
+    """All complaints about a case, and how many figures were compared with fractions."""
+    found = [f"call {place} ({call.name}): {words}" for place, (call, right, reply) in enumerate(zip(calls, expected, replies))
+             if (words := complaint(right, reply))]
+    if not case.exact or None in replies:
+        return found, 0
+    words, compared = exact_complaint(calls, replies)
+    return found + ([words] if words else []), compared
+
+
+def show(call, expected, reply):
+    print(f"{call.name}: {call.entry}, side {call.side}, {len(call.lent)} lent\n  table {call.table.hex()}\n  record {call.record.hex()}")
+    print(f"  state {list(state_numbers(call.state))}\n  expected {expected}\n  reply    {reply}")
+
+
+def try_cases(driver, chosen, seed, shown):
+    """Makes the calls of the chosen cases; gives counts of calls, failed cases and figures compared, and of calls by refusal."""
+    calls = [list(case.build(random_for(seed, number))) for number, case in chosen]
+    replies, right = iter(made_calls(driver, sum(calls, []))), Library()
+    failed, figures, refusals = 0, 0, {}
+    for (number, case), its_calls in zip(chosen, calls):
+        expected, its_replies = [right.reply(call) for call in its_calls], [next(replies) for _ in its_calls]
+        for call, promised, reply in zip(its_calls, expected, its_replies):
+            refusals[promised.refusal] = refusals.get(promised.refusal, 0) + 1
+            if shown:
+                show(call, promised, reply)
+        found, compared = compare(case, its_calls, expected, its_replies)
+        figures, failed = figures + compared, failed + bool(found)
+        if found and failed <= MOST_SHOWN:
+            print(f"FAILED --seed {seed} --only {number} ({case.name})\n  " + "\n  ".join(found[:5]))
+    return sum(map(len, calls)), failed, figures, refusals
+
+
+def main():
+    parser = argparse.ArgumentParser(description=__doc__, formatter_class=argparse.RawDescriptionHelpFormatter)
+    parser.add_argument("library", nargs="?", default=str(ROOT / "target/staticlib/libcapi.a"))
+    parser.add_argument("--seed", type=int, default=1)
+    parser.add_argument("--only", type=int, help="the case of this number alone, with all its numbers")
+    options = parser.parse_args()
+    if not Path(options.library).is_file():
+        sys.exit(f"{options.library} is not there; build it by `rt staticlib capi`")
+    started = time.perf_counter()
+    chosen = list(enumerate(cases()))
+    if options.only is not None:
+        chosen = [chosen[options.only]]
+    count, failed, figures, refusals = try_cases(built_driver(options.library), chosen, options.seed, options.only is not None)
+    print("calls by refusal: " + ", ".join(f"{number}: {times}" for number, times in sorted(refusals.items())))
+    print(f"figures compared with the run in fractions: {figures}")
+    print(f"{time.perf_counter() - started:.1f} s", file=sys.stderr)
+    print(f"calls: {count} calls in {len(chosen)} cases, {failed} failed")
+    return 1 if failed else 0
+
+
+if __name__ == "__main__":
+    sys.exit(main())
