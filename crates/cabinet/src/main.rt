@@ -1,32 +1,63 @@
 // Document 01, the program: a table and then records on standard input, the figures of each accepted step on standard output.
 ghost use mathlib.Core.Path.{_≡_};
+ghost use mathlib.Core.Bool.{true};
 ghost use Prim.Native.Nat.{_≤_};
 ghost use lib.ListN.{length};
+ghost use Rattle.table.specs.InUse.{valuesOf};
 ghost use Rattle.plan.specs.Plans.{PlanFits};
+ghost use Rattle.state.specs.Rules.{stateFits};
 ghost use Rattle.session.specs.Windows.{SessionFits};
 use fields::bytes::read32;
 use lines::put_refusal;
-use opening::Opening;
 use opening::open;
 use plan::Plan;
 use refusal::Refusal;
+use report::answer_next;
+use report::record_length;
 use session::Session;
 use session::Window;
-use session::answer_one;
+use session::after_record;
+use session::ready;
 use session::write_out;
+use state::State;
 use table::Verdict;
 
-// Answers the records, one after the other, up to a hundred thousand.
-fn serve(plan: Plan, session: Session, input: &mut [u8], numbers: &mut [u64], out: &mut [u8])
-    requires { ⌜ PlanFits plan × (SessionFits session (length (now input)) × ((length (now numbers) ≡ 3328) × (length (now out) ≡ 262144))) ⌝ }
+// Answers the records, one after the other, up to a hundred thousand, from a state that rule 8 accepts: every record leaves one.
+fn serve(
+    plan: Plan,
+    state: State,
+    session: Session,
+    input: &mut [u8],
+    numbers: &mut [u64],
+    out: &mut [u8],
+)
+    requires { ⌜ PlanFits plan × (SessionFits session (length (now input)) × ((length (now numbers) ≡ 3328) × ((length (now out) ≡ 262144) × (stateFits (valuesOf (plan .table)) state ≡ true)))) ⌝ }
 {
+    let mut state = state;
     let mut session = session;
     let mut count: u64 = 0;
     while count < 100_000 {
         if session.ended {
             break;
         }
-        session = answer_one(plan, session, &mut *input, &mut *numbers, &mut *out);
+        session = ready(session, &mut *input, &*out);
+        if session.ended {
+            break;
+        }
+        let window = session.window;
+        let from = window.from;
+        let have = window.have;
+        let length = record_length(&input[from..have]);
+        let answer = answer_next(
+            plan,
+            &input[from..have],
+            state,
+            &mut *numbers,
+            &mut *out,
+            session.at,
+        );
+        state = answer.state;
+        session = after_record(window, length, answer.end, answer.ended);
         count += 1;
     }
     write_out(&*out, session.at);
@@ -57,15 +88,13 @@ fn read_table(input: &mut [u8]) -> usize
 }
 
 // What the program holds after an accepted table.
-fn first_session(opening: Opening, have: usize) -> Session
-    requires { ⌜ (opening .length ≤ have) × (have ≤ 131072) ⌝ }
+fn first_session(length: usize, have: usize) -> Session
+    requires { ⌜ (length ≤ have) × (have ≤ 131072) ⌝ }
     ensures { λ r. ⌜ SessionFits r 131072 ⌝ }
 {
-    let state = opening.state;
     Session {
-        state,
         window: Window {
-            from: opening.length,
+            from: length,
             have,
             more: true,
         },
@@ -105,8 +134,15 @@ fn main() {
     match verdict {
         Verdict::Accepted => {
             let plan = opening.plan;
-            let session = first_session(opening, have);
-            serve(plan, session, &mut input, &mut numbers, &mut out);
+            let session = first_session(opening.length, have);
+            serve(
+                plan,
+                opening.state,
+                session,
+                &mut input,
+                &mut numbers,
+                &mut out,
+            );
         }
         Verdict::Refused(refusal) => refuse(refusal),
     }

@@ -6,6 +6,7 @@ use mathlib.Core.Path.{_≡_, refl, sym, ap, _∙_}
 use Rattle.refusal.specs.Answers.{Answer, accepted, refused}
 use Rattle.method.specs.declared.Figures.{Figures}
 use Rattle.table.specs.declared.Table.{Table}
+use Rattle.table.specs.Tables.{TableValues}
 use Rattle.table.specs.Verdicts.{verdictAnswer}
 use Rattle.table.specs.Rules.{tableRules}
 use Rattle.table.specs.InUse.{valuesOf, tableIn}
@@ -47,14 +48,29 @@ pub forecast-replied :
     → ForecastReplied r after answer before
 forecast-replied a answer before after r h e = record { reply = e ∙ ap countReply (h .count); numbers = h .numbers }
 
+-- the counts of an accepted table
+pub record CountsKnown (table : Table) (t : TableValues) : Type 0 where
+  pub elements : table .elements ≡ t .elements
+  pub leads : table .leads ≡ t .leads
+  pub gauges : table .gauges ≡ t .gauges
+
+pub counts-known : (table : Table) (t : TableValues) → valuesOf table ≡ t → CountsKnown table t
+unfolding valuesOf
+counts-known table t e =
+    record {
+      elements = ap (λ (x : TableValues). x .elements) e;
+      leads = ap (λ (x : TableValues). x .leads) e;
+      gauges = ap (λ (x : TableValues). x .gauges) e;
+    }
+
 pub plan-replied :
     (bytes : List ℕ) (table : Table) (r : PlanReply)
     → TableKnown bytes table
-    → r ≡ planOf (valuesOf table)
+    → r ≡ planOf (tableIn bytes)
     → r ≡ planReply (tableRules bytes (accepted (tableIn bytes)))
 unfolding planReply
 plan-replied bytes table r k e =
-    e ∙ ap planOf (k .values) ∙ ap planReply (sym (table-laws.rules-accepted bytes (accepted (tableIn bytes)) (k .kept)))
+    e ∙ ap planReply (sym (table-laws.rules-accepted bytes (accepted (tableIn bytes)) (k .kept)))
 
 pub plan-refused :
     (bytes : List ℕ) (k n : ℕ) (r : PlanReply)

@@ -7,14 +7,13 @@ ghost use Rattle.leads.specs.Lent.{countAnswer};
 ghost use Rattle.table.specs.Verdicts.{verdictAnswer};
 ghost use Rattle.table.specs.Bounds.{TableBounds};
 ghost use Rattle.table.specs.Rules.{tableRules};
-ghost use Rattle.table.specs.InUse.{valuesOf, tableIn};
+ghost use Rattle.table.specs.InUse.{tableIn};
 ghost use Rattle.refusal.specs.Answers.{accepted};
 ghost use Rattle.capi.specs.Replies.{refusalOf, planOf, noPlan, planReply, stateReply, countReply, ForecastReplied};
 use leads::ForecastAnswer;
 use rains::count_basins;
 use state::State;
 use state::StateAnswer;
-use table::Table;
 use table::Verdict;
 
 // 0, or the number for no, and what a table asks the host to lend: its counts, the bytes of a record and the numbers of
@@ -77,19 +76,20 @@ fn forecast_reply(answer: ForecastAnswer) -> ForecastReply
     }
 }
 
-fn plan_of(table: Table) -> PlanReply
-    requires { ⌜ TableBounds (valuesOf table) ⌝ }
-    ensures { λ r. ⌜ r ≡ planOf (valuesOf table) ⌝ }
+// What the bytes of an accepted table ask for, with its N, L and M.
+fn plan_of(table: &[u8], elements: usize, leads: usize, gauges: usize) -> PlanReply
+    requires { ⌜ TableBounds (tableIn (now table)) × ((elements ≡ tableIn (now table) .elements) × ((leads ≡ tableIn (now table) .leads) × (gauges ≡ tableIn (now table) .gauges))) ⌝ }
+    ensures { λ r. ⌜ r ≡ planOf (tableIn (now (table .entry))) ⌝ }
 {
-    let basins = count_basins(table);
+    let basins = count_basins(table, elements);
     PlanReply {
         refusal: 0,
-        elements: table.elements,
-        leads: table.leads,
-        gauges: table.gauges,
+        elements,
+        leads,
+        gauges,
         basins,
-        bytes: 3 + 2 * basins + 2 * table.gauges,
-        numbers: 4 * table.elements * (table.leads + 1),
+        bytes: 3 + 2 * basins + 2 * gauges,
+        numbers: 4 * elements * (leads + 1),
     }
 }
 
@@ -115,7 +115,10 @@ pub extern "C" fn river_prepare(table: &[u8]) -> PlanReply
     let read = table_reader::read(table);
     let verdict = read.verdict;
     match verdict {
-        Verdict::Accepted => plan_of(read.table),
+        Verdict::Accepted => {
+            let held = read.table;
+            plan_of(table, held.elements, held.leads, held.gauges)
+        }
         Verdict::Refused(refusal) => no_plan(refusal.code()),
     }
 }

@@ -14,7 +14,6 @@ use Rattle.table.specs.Bounds.{TableBounds}
 use Rattle.table.proofs.InUseLaws.{bounds-in-use}
 use Rattle.table.proofs.TableLaws as table-laws
 use Rattle.record.specs.Rules.{recordRules}
-use Rattle.record.proofs.RecordLaws as record-laws
 use Rattle.state.specs.declared.State.{State}
 use Rattle.state.specs.Rules.{stateFits, stepsLeft}
 use Rattle.state.specs.Start.{started}
@@ -22,6 +21,7 @@ use Rattle.network.specs.Step.{stepped, stepNumbers}
 use Rattle.network.specs.Forecast.{leadNumbers}
 use Rattle.leads.specs.Answer.{forecastFigures, spaceFits, leadsAnswer}
 use Rattle.engine.specs.Entries.{startAnswer, inputsIn, stepOnAnswer, stepAnswer, forecastOnAnswer, forecastAnswer}
+use Rattle.engine.proofs.NextLaws.{rules-kept}
 use Rattle.claim.proofs.CeilingLaws.{Under, let-through}
 
 -- rules before an accepted answer are kept
@@ -37,19 +37,6 @@ table-kept bytes rest {a} h = go (tableRules {A = Unit} bytes (accepted tt)) ref
         → (tableRules {A = Unit} bytes (accepted tt) ≡ accepted tt) × (rest ≡ accepted a)
     go (accepted u) e = (e, sym (table-laws.rules-accepted bytes rest e) ∙ h)
     go (refused k) e = absurd (not-both h (table-laws.rules-refused bytes rest e))
-
-pub record-kept :
-    {A : Type 0} (t : TableValues) (bytes : List ℕ) (rest : Answer A) {a : A}
-    → recordRules t bytes rest ≡ accepted a
-    → (recordRules {A = Unit} t bytes (accepted tt) ≡ accepted tt) × (rest ≡ accepted a)
-record-kept t bytes rest {a} h = go (recordRules {A = Unit} t bytes (accepted tt)) refl
-  where
-    go :
-        (r : Answer Unit)
-        → recordRules {A = Unit} t bytes (accepted tt) ≡ r
-        → (recordRules {A = Unit} t bytes (accepted tt) ≡ accepted tt) × (rest ≡ accepted a)
-    go (accepted u) e = (e, sym (record-laws.rules-accepted t bytes rest e) ∙ h)
-    go (refused k) e = absurd (not-both h (record-laws.rules-refused t bytes rest e))
 
 -- an accepted start
 pub record Starting (t : TableValues) (any s : State) : Type 0 where
@@ -78,7 +65,7 @@ stepping table bytes s next h =
     let a = table-kept table _ h in
     let b = rule-kept 8 (stateFits t s) _ (a .1) in
     let c = rule-kept 9 (stepsLeft s) _ (b .1) in
-    let d = record-kept t bytes _ (c .1) in
+    let d = rules-kept t bytes _ (c .1) in
     let e = let-through (stepNumbers t (inputsIn t bytes) s) (stepped t (inputsIn t bytes) s) (d .1) in
     (record { fits = b .0; kept = d .0; under = e .1 }, e .0)
 

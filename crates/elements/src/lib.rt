@@ -1,12 +1,14 @@
 // The elements of a table.
 ghost use mathlib.Core.Path.{_≡_};
-ghost use Prim.Native.Nat.{_≤_};
-ghost use lib.ListN.{replicate};
+ghost use Prim.Native.Nat.{_+_, _*_, _≤_};
+ghost use lib.ListN.{replicate, length};
 ghost use Rattle.elements.specs.Elements.{elementAt, noElement};
-ghost use Rattle.elements.specs.Decoded.{HoldsElements};
 use fields::bytes::byte;
 use fields::bytes::read16;
 use fields::bytes::read32;
+use fields::bytes::whole16;
+use fields::bytes::whole32;
+use fields::bytes::wide;
 use units::Discharge;
 use units::Variance;
 
@@ -23,8 +25,27 @@ pub struct Element {
     pub rain: Variance,
 }
 
-// Element i, counted from 0.
-pub fn element_at(table: &[u8], i: usize) -> Element
+// Element i, all of whose bytes are there.
+fn whole_element(table: &[u8], i: usize) -> Element
+    requires { ⌜ (i ≤ 255) × (26 * i + 36 ≤ length (now table)) ⌝ }
+    ensures { λ r. ⌜ r ≡ elementAt (now (table .entry)) i ⌝ }
+{
+    let at = 26 * i + 10;
+    Element {
+        kind: wide(table[at]),
+        down: wide(table[at + 1]) as usize,
+        lag: whole16(table, at + 2),
+        area: whole32(table, at + 4),
+        runoff: whole16(table, at + 8),
+        discharge: Discharge(whole32(table, at + 10)),
+        variance: Variance(whole32(table, at + 14)),
+        noise: Variance(whole32(table, at + 18)),
+        rain: Variance(whole32(table, at + 22)),
+    }
+}
+
+// Element i, some of whose bytes may lack; they count as 0.
+fn partial_element(table: &[u8], i: usize) -> Element
     requires { ⌜ i ≤ 255 ⌝ }
     ensures { λ r. ⌜ r ≡ elementAt (now (table .entry)) i ⌝ }
 {
@@ -42,12 +63,31 @@ pub fn element_at(table: &[u8], i: usize) -> Element
     }
 }
 
+// Element i, counted from 0: one test for all its bytes.
+pub fn element_at(table: &[u8], i: usize) -> Element
+    requires { ⌜ i ≤ 255 ⌝ }
+    ensures { λ r. ⌜ r ≡ elementAt (now (table .entry)) i ⌝ }
+{
+    if 26 * i + 36 <= table.len() {
+        return whole_element(table, i);
+    }
+    partial_element(table, i)
+}
+
 // The kind of element i.
 pub fn kind_at(table: &[u8], i: usize) -> u64
     requires { ⌜ i ≤ 255 ⌝ }
     ensures { λ r. ⌜ r ≡ elementAt (now (table .entry)) i .kind ⌝ }
 {
     byte(table, 26 * i + 10)
+}
+
+// The lag of element i.
+pub fn lag_at(table: &[u8], i: usize) -> u64
+    requires { ⌜ i ≤ 255 ⌝ }
+    ensures { λ r. ⌜ r ≡ elementAt (now (table .entry)) i .lag ⌝ }
+{
+    read16(table, 26 * i + 10 + 2)
 }
 
 // The number of the element that element i drains into.
@@ -74,16 +114,4 @@ pub fn unused() -> [Element; 64]
         rain: Variance(0),
     };
     [none; 64]
-}
-
-// The first n elements.
-pub fn decode(table: &[u8], n: usize) -> [Element; 64]
-    requires { ⌜ n ≤ 64 ⌝ }
-    ensures { λ r. ⌜ HoldsElements r (elementAt (now (table .entry))) n ⌝ }
-{
-    let mut elements = unused();
-    for i in 0..n {
-        elements[i] = element_at(table, i);
-    }
-    elements
 }

@@ -1,4 +1,5 @@
 ghost use mathlib.Core.Path.{_≡_};
+ghost use mathlib.Core.Bool.{true};
 ghost use lib.ListN.{length};
 ghost use Rattle.table.specs.declared.Verdict.the-variants.{Refused};
 ghost use Rattle.table.specs.InUse.{valuesOf};
@@ -6,6 +7,7 @@ ghost use Rattle.plan.specs.Plans.{PlanFits};
 ghost use Rattle.engine.specs.Entries.{startAnswer, stepOnAnswer, stepAnswer, forecastOnAnswer, forecastAnswer};
 ghost use Rattle.leads.specs.Lent.{Lent};
 ghost use Rattle.state.specs.Answers.{Answered};
+ghost use Rattle.state.specs.Rules.{stateFits};
 use leads::ForecastAnswer;
 use plan::Plan;
 use refusal::Refusal;
@@ -41,14 +43,11 @@ pub fn start(table: &[u8], state: State) -> StateAnswer
     }
 }
 
-// A step on a plan and the bytes of a record: rules 8 to 14 and 16.
-pub fn step_with(plan: Plan, bytes: &[u8], state: State) -> StateAnswer
-    requires { ⌜ PlanFits plan ⌝ }
+// A step on a plan and the bytes of a record from a state that rule 8 accepts: rules 9 to 14 and 16.
+pub fn step_from(plan: Plan, bytes: &[u8], state: State) -> StateAnswer
+    requires { ⌜ PlanFits plan × (stateFits (valuesOf (plan .table)) state ≡ true) ⌝ }
     ensures { λ r. ⌜ Answered r (stepOnAnswer (valuesOf (plan .table)) (now (bytes .entry)) state) state ⌝ }
 {
-    if !state_rules::state_fits(plan.table, state) {
-        return refused(Refusal::StateRange, state);
-    }
     if !state::steps_left(state) {
         return refused(Refusal::StepLimit, state);
     }
@@ -59,6 +58,17 @@ pub fn step_with(plan: Plan, bytes: &[u8], state: State) -> StateAnswer
         Verdict::Accepted => network::step_on(plan, input, state),
         Verdict::Refused(_) => StateAnswer { verdict, state },
     }
+}
+
+// A step on a plan and the bytes of a record: rules 8 to 14 and 16.
+pub fn step_with(plan: Plan, bytes: &[u8], state: State) -> StateAnswer
+    requires { ⌜ PlanFits plan ⌝ }
+    ensures { λ r. ⌜ Answered r (stepOnAnswer (valuesOf (plan .table)) (now (bytes .entry)) state) state ⌝ }
+{
+    if !state_rules::state_fits(plan.table, state) {
+        return refused(Refusal::StateRange, state);
+    }
+    step_from(plan, bytes, state)
 }
 
 // A step on the bytes of a table and of a record: rules 1 to 14 and 16.
@@ -83,17 +93,6 @@ pub fn forecast_with(plan: Plan, state: State, out: &mut [u64]) -> ForecastAnswe
         return ForecastAnswer::Refused(Refusal::StateRange);
     }
     leads::forecast_on(plan, state, out)
-}
-
-// A forecast on a plan in space that may be spoiled, for a caller that lends its own: rules 8 and 16.
-pub fn forecast_in(plan: Plan, state: State, space: &mut [u64]) -> ForecastAnswer
-    requires { ⌜ PlanFits plan × (length (now space) ≡ 3328) ⌝ }
-    ensures { λ r. ⌜ Lent r (now (space .exit)) (forecastOnAnswer (valuesOf (plan .table)) state 3328) (now (space .exit)) ⌝ }
-{
-    if !state_rules::state_fits(plan.table, state) {
-        return ForecastAnswer::Refused(Refusal::StateRange);
-    }
-    leads::forecast_in(plan, state, space)
 }
 
 // A forecast on the bytes of a table into lent space: rules 1 to 8, 15 and 16.

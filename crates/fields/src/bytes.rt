@@ -3,7 +3,7 @@ ghost use Prim.Native.Nat.{_+_, _*_, _≤_, _<_};
 ghost use lib.ListN.{length};
 ghost use Rattle.fields.specs.Bytes.{byteAt, number16, number32};
 
-fn wide(x: u8) -> u64
+pub fn wide(x: u8) -> u64
     ensures { λ r. ⌜ (r ≡ x) × (r < 256) ⌝ }
 {
     x as u64
@@ -17,11 +17,19 @@ pub fn byte(s: &[u8], at: usize) -> u64
 }
 
 // The number of two bytes that are there, the first the highest.
-fn whole16(s: &[u8], at: usize) -> u64
+pub fn whole16(s: &[u8], at: usize) -> u64
     requires { ⌜ at + 2 ≤ length (now s) ⌝ }
     ensures { λ r. ⌜ (r ≡ number16 (now (s .entry)) at) × (r < 65536) ⌝ }
 {
     wide(s[at]) * 256 + wide(s[at + 1])
+}
+
+// The number of four bytes that are there, the first the highest.
+pub fn whole32(s: &[u8], at: usize) -> u64
+    requires { ⌜ at + 4 ≤ length (now s) ⌝ }
+    ensures { λ r. ⌜ (r ≡ number32 (now (s .entry)) at) × (r < 4294967296) ⌝ }
+{
+    whole16(s, at) * 65536 + whole16(s, at + 2)
 }
 
 // The number of two bytes, the first the highest; one test where both are there.
@@ -41,7 +49,7 @@ pub fn read32(s: &[u8], at: usize) -> u64
     ensures { λ r. ⌜ (r ≡ number32 (now (s .entry)) at) × (r < 4294967296) ⌝ }
 {
     if at + 4 <= s.len() {
-        return whole16(s, at) * 65536 + whole16(s, at + 2);
+        return whole32(s, at);
     }
     read16(s, at) * 65536 + read16(s, at + 2)
 }

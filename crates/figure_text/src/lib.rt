@@ -5,7 +5,7 @@ ghost use lib.ListN.{length};
 ghost use Rattle.text.specs.Decimal.{decimal};
 ghost use Rattle.text.specs.Pairs.{pairsBelow};
 ghost use Rattle.text.specs.Places.{Put};
-use text::put_digits;
+ghost use Rattle.figure_text.specs.Groups.{firstGroup};
 use text::put_four;
 use text::put_pair;
 
@@ -32,32 +32,42 @@ fn put_short(out: &mut [u8], at: usize, v: u64, pairs: &[u16]) -> usize
     at + 4
 }
 
-// The digits of x, put at a place in pairs; the place after them.
-fn put_decimal(out: &mut [u8], at: usize, x: u64, pairs: &[u16]) -> usize
-    requires { ⌜ (at + 20 ≤ length (now out)) × (now pairs ≡ pairsBelow 100) ⌝ }
-    ensures { λ r. ⌜ Put (now (out .entry)) at (decimal x) (now (out .exit)) r ⌝ }
+// The first of the groups of four digits of a number of at most twelve.
+fn first_group(x: u64) -> u64
+    requires { ⌜ x < 1000000000000 ⌝ }
+    ensures { λ r. ⌜ (r ≡ firstGroup x) × (r < 10000) ⌝ }
 {
     if x < 10_000 {
-        return put_short(&mut *out, at, x, pairs);
+        return x;
     }
     if x < 100_000_000 {
-        let end = put_short(&mut *out, at, x / 10_000, pairs);
-        put_four(&mut *out, end, x % 10_000, pairs);
-        return end + 4;
+        return x / 10_000;
     }
-    if x < 1_000_000_000_000 {
-        let end = put_short(&mut *out, at, x / 100_000_000, pairs);
-        let last = x % 100_000_000;
-        put_four(&mut *out, end, last / 10_000, pairs);
-        put_four(&mut *out, end + 4, last % 10_000, pairs);
-        return end + 8;
-    }
-    put_digits(&mut *out, at, x)
+    x / 100_000_000
 }
 
-// As text::put_number, and faster: for the figures of each line. One place calls it, so that it is compiled into that loop.
+// The digits of a number of at most twelve, put at a place in groups of four; the place after them.
+fn put_decimal(out: &mut [u8], at: usize, x: u64, pairs: &[u16]) -> usize
+    requires { ⌜ (x < 1000000000000) × ((at + 12 ≤ length (now out)) × (now pairs ≡ pairsBelow 100)) ⌝ }
+    ensures { λ r. ⌜ Put (now (out .entry)) at (decimal x) (now (out .exit)) r ⌝ }
+{
+    let first = first_group(x);
+    let mut end = put_short(&mut *out, at, first, pairs);
+    if 100_000_000 <= x {
+        put_four(&mut *out, end, x / 10_000 % 10_000, pairs);
+        end += 4;
+    }
+    if 10_000 <= x {
+        put_four(&mut *out, end, x % 10_000, pairs);
+        end += 4;
+    }
+    end
+}
+
+// As text::put_number, and faster, for numbers of at most twelve digits: the figures of each line. One place calls it, so that it is
+// compiled into that loop, which then has no call.
 pub fn put_figure(out: &mut [u8], at: usize, x: u64, after: u8, pairs: &[u16]) -> usize
-    requires { ⌜ (at + 21 ≤ length (now out)) × (now pairs ≡ pairsBelow 100) ⌝ }
+    requires { ⌜ (x < 1000000000000) × ((at + 21 ≤ length (now out)) × (now pairs ≡ pairsBelow 100)) ⌝ }
     ensures { λ r. ⌜ Put (now (out .entry)) at (decimal x ++ after ∷ []) (now (out .exit)) r × (r ≤ at + 21) ⌝ }
 {
     let end = put_decimal(&mut *out, at, x, pairs);

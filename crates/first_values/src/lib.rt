@@ -51,7 +51,7 @@ pub fn start_on(table: Table, state: State) -> State
     let n = table.elements;
     let mut next = state;
     for i in 0..n {
-        next.element[i] = first_place(table.element[i], state.element[i]);
+        next.element[i] = first_place(table.element[i], next.element[i]);
     }
     next.elements = n;
     next.steps = 0;

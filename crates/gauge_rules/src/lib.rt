@@ -3,12 +3,20 @@ ghost use mathlib.Core.Path.{_≡_};
 ghost use Prim.Native.Nat.{_≤_};
 ghost use Rattle.fields.specs.Ranges.{allBelow};
 ghost use Rattle.gauges.specs.Gauges.{gaugeAt};
+ghost use Rattle.gauges.specs.Decoded.{HoldsGauges};
 ghost use Rattle.gauges.specs.Rules.{elementBefore, gaugeFits};
 use curve_rules::curve_fits;
 use fields::range::in_range;
+use gauges::Gauge;
 use gauges::element_of;
 use gauges::gauge_at;
 use units::Variance;
+
+// The gauges that bytes hold, and whether rule 7 is kept.
+pub struct GaugesRead {
+    pub gauge: [Gauge; 16],
+    pub fit: bool,
+}
 
 // The element of the gauge before gauge g; 0 before the first.
 fn element_before(table: &[u8], n: usize, g: usize) -> usize
@@ -22,11 +30,10 @@ fn element_before(table: &[u8], n: usize, g: usize) -> usize
 }
 
 // Rule 7 on gauge g, counted from 0.
-fn gauge_fits(table: &[u8], n: usize, g: usize) -> bool
-    requires { ⌜ (n ≤ 64) × (g ≤ 64) ⌝ }
+fn gauge_fits(table: &[u8], n: usize, g: usize, gauge: Gauge) -> bool
+    requires { ⌜ ((n ≤ 64) × (g ≤ 64)) × (gauge ≡ gaugeAt (now table) n g) ⌝ }
     ensures { λ r. ⌜ r ≡ gaugeFits n (gaugeAt (now (table .entry)) n) g ⌝ }
 {
-    let gauge = gauge_at(table, n, g);
     let noise = gauge.noise;
     let curve = gauge.curve;
     (element_before(table, n, g) < gauge.element)
@@ -35,14 +42,17 @@ fn gauge_fits(table: &[u8], n: usize, g: usize) -> bool
         & curve_fits(curve)
 }
 
-// Rule 7: the fields and the order of all gauges.
-pub fn gauges_fit(table: &[u8], n: usize, m: usize) -> bool
+// The first m gauges of a table with n elements, and whether all of them keep rule 7.
+pub fn read_gauges(table: &[u8], n: usize, m: usize) -> GaugesRead
     requires { ⌜ (n ≤ 64) × (m ≤ 16) ⌝ }
-    ensures { λ r. ⌜ r ≡ allBelow (gaugeFits n (gaugeAt (now (table .entry)) n)) m ⌝ }
+    ensures { λ r. ⌜ HoldsGauges (r .gauge) (gaugeAt (now (table .entry)) n) m × (r .fit ≡ allBelow (gaugeFits n (gaugeAt (now (table .entry)) n)) m) ⌝ }
 {
+    let mut gauge = gauges::unused();
     let mut fit = true;
     for g in 0..m {
-        fit = fit & gauge_fits(table, n, g);
+        let one = gauge_at(table, n, g);
+        gauge[g] = one;
+        fit = fit & gauge_fits(table, n, g, one);
     }
-    fit
+    GaugesRead { gauge, fit }
 }

@@ -3,7 +3,6 @@ ghost use mathlib.Core.Path.{_≡_};
 ghost use Prim.Native.Nat.{_≤_, _<_};
 ghost use lib.ListN.{replicate};
 ghost use Rattle.gauges.specs.Gauges.{offsetOf, pieceAt, gaugeAt, noGauge};
-ghost use Rattle.gauges.specs.Decoded.{HoldsGauges};
 use fields::bytes::byte;
 use fields::bytes::read16;
 use fields::bytes::read32;
@@ -13,11 +12,11 @@ use rating::Piece;
 use units::Stage;
 use units::Variance;
 
-// A gauge of the table: the element it stands at, its noise R and its curve.
+// A gauge of the table: its curve, its noise R and the element it stands at.
 pub struct Gauge {
-    pub element: usize,
-    pub noise: Variance,
     pub curve: Curve,
+    pub noise: Variance,
+    pub element: usize,
 }
 
 // b of a piece from two bytes in two's complement.
@@ -92,16 +91,4 @@ pub fn unused() -> [Gauge; 16]
         },
     };
     [none; 16]
-}
-
-// The first m gauges of a table with n elements.
-pub fn decode(table: &[u8], n: usize, m: usize) -> [Gauge; 16]
-    requires { ⌜ (n ≤ 64) × (m ≤ 16) ⌝ }
-    ensures { λ r. ⌜ HoldsGauges r (gaugeAt (now (table .entry)) n) m ⌝ }
-{
-    let mut gauges = unused();
-    for g in 0..m {
-        gauges[g] = gauge_at(table, n, g);
-    }
-    gauges
 }

@@ -1,3 +1,4 @@
+ghost use mathlib.Core.Bool.{true};
 ghost use mathlib.Core.List.{[], _∷_, _++_};
 ghost use mathlib.Core.Path.{_≡_};
 ghost use Prim.Native.Nat.{_+_, _*_, _≤_, _<_};
@@ -7,7 +8,7 @@ ghost use Rattle.text.specs.Lines.{line};
 ghost use Rattle.text.specs.Pairs.{pairsBelow};
 ghost use Rattle.text.specs.Places.{Put};
 ghost use Rattle.lines.specs.Printed.{refusalLine, answerLines};
-ghost use Rattle.lines.specs.Starts.{byteAfter, figuresFrom, lineAfter, linesAfter};
+ghost use Rattle.lines.specs.Starts.{byteAfter, figuresFrom, allShort, lineAfter, linesAfter};
 use figure_text::put_figure;
 use text::digit_pairs;
 use text::put_bytes;
@@ -43,9 +44,26 @@ fn byte_after(k: usize) -> u8
     if k < 3 { b' ' } else { b'\n' }
 }
 
-// The four figures from a place on, which end a line, put at a place; the place after them.
-fn put_figures(out: &mut [u8], at: usize, numbers: &[u64], from: usize, pairs: &[u16]) -> usize
-    requires { ⌜ (at + 84 ≤ length (now out)) × ((from + 4 ≤ length (now numbers)) × (now pairs ≡ pairsBelow 100)) ⌝ }
+// Whether the four figures from a place on have at most twelve digits each.
+fn all_short(numbers: &[u64], from: usize) -> bool
+    requires { ⌜ from + 4 ≤ length (now numbers) ⌝ }
+    ensures { λ r. ⌜ r ≡ allShort (now (numbers .entry)) from ⌝ }
+{
+    (numbers[from] < 1_000_000_000_000)
+        & (numbers[from + 1] < 1_000_000_000_000)
+        & (numbers[from + 2] < 1_000_000_000_000)
+        & (numbers[from + 3] < 1_000_000_000_000)
+}
+
+// Four figures of at most twelve digits, which end a line, put at a place; the place after them.
+fn put_short_figures(
+    out: &mut [u8],
+    at: usize,
+    numbers: &[u64],
+    from: usize,
+    pairs: &[u16],
+) -> usize
+    requires { ⌜ (allShort (now numbers) from ≡ true) × ((at + 84 ≤ length (now out)) × ((from + 4 ≤ length (now numbers)) × (now pairs ≡ pairsBelow 100))) ⌝ }
     ensures { λ r. ⌜ Put (now (out .entry)) at (line (figuresFrom (now (numbers .entry)) from)) (now (out .exit)) r × (r ≤ at + 84) ⌝ }
 {
     let mut next = at;
@@ -54,6 +72,28 @@ fn put_figures(out: &mut [u8], at: usize, numbers: &[u64], from: usize, pairs: &
         next = put_figure(&mut *out, next, numbers[from + k], after, pairs);
     }
     next
+}
+
+// Four figures of any length, which end a line, put at a place; the place after them. No figure that is handed out is so long.
+fn put_long_figures(out: &mut [u8], at: usize, numbers: &[u64], from: usize) -> usize
+    requires { ⌜ (at + 84 ≤ length (now out)) × (from + 4 ≤ length (now numbers)) ⌝ }
+    ensures { λ r. ⌜ Put (now (out .entry)) at (line (figuresFrom (now (numbers .entry)) from)) (now (out .exit)) r × (r ≤ at + 84) ⌝ }
+{
+    let p1 = put_number(&mut *out, at, numbers[from], b' ');
+    let p2 = put_number(&mut *out, p1, numbers[from + 1], b' ');
+    let p3 = put_number(&mut *out, p2, numbers[from + 2], b' ');
+    put_number(&mut *out, p3, numbers[from + 3], b'\n')
+}
+
+// The four figures from a place on, which end a line, put at a place; the place after them.
+fn put_figures(out: &mut [u8], at: usize, numbers: &[u64], from: usize, pairs: &[u16]) -> usize
+    requires { ⌜ (at + 84 ≤ length (now out)) × ((from + 4 ≤ length (now numbers)) × (now pairs ≡ pairsBelow 100)) ⌝ }
+    ensures { λ r. ⌜ Put (now (out .entry)) at (line (figuresFrom (now (numbers .entry)) from)) (now (out .exit)) r × (r ≤ at + 84) ⌝ }
+{
+    if all_short(numbers, from) {
+        return put_short_figures(&mut *out, at, numbers, from, pairs);
+    }
+    put_long_figures(&mut *out, at, numbers, from)
 }
 
 // The line at a lead, with the four figures from a place on, put at a place; the place after it.

@@ -13,7 +13,6 @@ use Rattle.method.specs.declared.FiguresAnswer.the-variants as of-figures
 use Rattle.method.specs.Figures.{figuresAnswer, FiguresFit}
 use Rattle.method.specs.Inflow.{joinedInflow}
 use Rattle.inflow.specs.Basin.{basinInflow}
-use Rattle.table.specs.declared.Verdict.{Verdict}
 use Rattle.table.specs.declared.Verdict.the-variants.{Accepted, Refused}
 use Rattle.table.specs.Verdicts.{verdictAnswer}
 use Rattle.element_step.specs.ElementStep.{elementStep, elementNumbers}

@@ -8,7 +8,7 @@ use native.Mathlib.Omega.{arith}
 use native.Mathlib.Nat.{le-refl}
 use borrow.Author.Tests.{le-leb, lt-leb}
 use lib.Dec.{leb}
-use lib.ListN.{length, take, drop, drop-of-length-le}
+use lib.ListN.{length, length-replicate, take, drop, drop-of-length-le}
 use lib.Seq.{take-all}
 use Rattle.refusal.specs.Answers.{Answer, accepted, refused}
 use Rattle.fields.specs.Bytes.{number32}
@@ -17,10 +17,13 @@ use Rattle.table.specs.declared.Verdict.the-variants.{Accepted}
 use Rattle.table.specs.Verdicts.{verdictAnswer}
 use Rattle.table.specs.Rules.{lengthFits, tableRules}
 use Rattle.table.specs.InUse.{valuesOf, tableIn}
-use Rattle.table.proofs.TableLaws.{rules-refused}
+use Rattle.table.proofs.TableLaws.{rules-accepted, rules-refused}
 use Rattle.state.specs.declared.State.{State}
 use Rattle.state.specs.declared.StateAnswer.{StateAnswer}
 use Rattle.state.specs.Start.{started}
+use Rattle.state.specs.States.{noPlace}
+use Rattle.state.specs.Rules.{stateFits}
+use Rattle.engine.proofs.NextLaws.{started-fits}
 use Rattle.state.specs.Answers.{verdict, stateAfter, Answered}
 use Rattle.plan.specs.declared.PlanAnswer.{PlanAnswer}
 use Rattle.plan.specs.Plans.{PlanFits, Prepared}
@@ -120,3 +123,21 @@ opened input size r t o e =
       table = λ a. o .table a ∙ ap tableIn (t .bytes (not-long input _ v a));
       after = λ a. rw e (t .after (not-long input _ v a));
     }
+
+-- what an accepted start leaves is a state that rule 8 accepts
+started-on : (input : List ℕ) (r : Opening) → Opened input r → r .verdict ≡ Accepted → r .state ≡ started (tableIn (tableBytes input)) emptyState
+unfolding openAnswer startAnswer stateAfter
+started-on input r o v =
+    let short = not-long input _ (o .verdict) v in
+    let judged : openAnswer input ≡ startAnswer (tableBytes input) emptyState = rw short in
+    let kept = rules-kept (tableBytes input) emptyState _ (o .verdict ∙ ap verdict judged) v in
+    let found : openAnswer input ≡ accepted (started (tableIn (tableBytes input)) emptyState) =
+    judged ∙ rules-accepted (tableBytes input) _ kept in
+    o .state ∙ ap (λ (a : Answer State). stateAfter a emptyState) found
+
+pub opened-fits : (input : List ℕ) (r : Opening) → Opened input r → r .verdict ≡ Accepted → stateFits (valuesOf (r .plan .table)) (r .state) ≡ true
+unfolding emptyState
+opened-fits input r o v =
+    let bounds = o .fits v .table in
+    rw (started-on input r o v, ← o .table v)
+    (started-fits (valuesOf (r .plan .table)) emptyState bounds (omega (arith, length-replicate 64 noPlace, bounds .elementsMost)))

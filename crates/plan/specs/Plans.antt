@@ -24,6 +24,11 @@ weightOf t i = weight (t .step) (t .element i .lag)
 pub record WeightsHeld (weights : List ℕ) (table : Table) (n : ℕ) : Type 0 where
   pub at : (i : ℕ) → i < n → getD weights i 0 ≡ weightOf (valuesOf table) i
 
+-- the weight of each element in use, and the number of basins
+pub record Weighs (weights : List ℕ) (basins : ℕ) (t : TableValues) : Type 0 where
+  pub at : (i : ℕ) → i < t .elements → getD weights i 0 ≡ weightOf t i
+  pub counted : basins ≡ basinCount t
+
 -- a plan holds an accepted table, its number of basins and its weights
 pub record PlanFits (plan : Plan) : Type 0 where
   pub table : TableBounds (valuesOf (plan .table))

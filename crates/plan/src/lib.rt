@@ -1,8 +1,11 @@
 ghost use mathlib.Core.Path.{_≡_};
 ghost use Rattle.table.specs.Bounds.{TableBounds};
-ghost use Rattle.table.specs.InUse.{valuesOf};
-ghost use Rattle.plan.specs.Plans.{WeightsHeld, PlanFits, Prepared};
-use rains::count_basins;
+ghost use Rattle.table.specs.InUse.{tableIn};
+ghost use Rattle.table.specs.declared.Verdict.the-variants.{Accepted};
+ghost use Rattle.plan.specs.Plans.{Weighs, Prepared};
+use elements::kind_at;
+use elements::lag_at;
+use rains::basin_of;
 use table::Table;
 use table::Verdict;
 use weighting::weight::series_weight;
@@ -20,32 +23,37 @@ pub struct PlanAnswer {
     pub plan: Plan,
 }
 
-// The weight of each element in use.
-fn weights_of(table: Table) -> [u64; 64]
-    requires { ⌜ TableBounds (valuesOf table) ⌝ }
-    ensures { λ r. ⌜ WeightsHeld r table (table .elements) ⌝ }
-{
-    let n = table.elements;
-    let step = table.step;
-    let mut weight = [0u64; 64];
-    for i in 0..n {
-        let e = table.element[i];
-        weight[i] = series_weight(step, e.lag);
-    }
-    weight
+// What is worked out of the elements.
+struct Weighed {
+    weight: [u64; 64],
+    basins: usize,
 }
 
-// The plan of an accepted table.
-fn plan_of(table: Table) -> Plan
-    requires { ⌜ TableBounds (valuesOf table) ⌝ }
-    ensures { λ r. ⌜ PlanFits r × (r .table ≡ table) ⌝ }
+// The weight of each element of an accepted table and the number of basins, from the bytes: a table by value is a large copy.
+fn weigh(bytes: &[u8], step: u64, n: usize) -> Weighed
+    requires { ⌜ TableBounds (tableIn (now bytes)) × ((step ≡ tableIn (now bytes) .step) × (n ≡ tableIn (now bytes) .elements)) ⌝ }
+    ensures { λ r. ⌜ Weighs (r .weight) (r .basins) (tableIn (now (bytes .entry))) ⌝ }
 {
-    let basins = count_basins(table);
-    let weight = weights_of(table);
-    Plan {
-        table,
-        basins,
-        weight,
+    let mut weight = [0u64; 64];
+    let mut basins: usize = 0;
+    for i in 0..n {
+        weight[i] = series_weight(step, lag_at(bytes, i));
+        basins += basin_of(kind_at(bytes, i));
+    }
+    Weighed { weight, basins }
+}
+
+// The same where the table is accepted.
+fn weigh_accepted(verdict: Verdict, bytes: &[u8], step: u64, n: usize) -> Weighed
+    requires { ⌜ (verdict ≡ Accepted → TableBounds (tableIn (now bytes)) × ((step ≡ tableIn (now bytes) .step) × (n ≡ tableIn (now bytes) .elements))) ⌝ }
+    ensures { λ r. ⌜ (verdict ≡ Accepted → Weighs (r .weight) (r .basins) (tableIn (now (bytes .entry)))) ⌝ }
+{
+    match verdict {
+        Verdict::Accepted => weigh(bytes, step, n),
+        Verdict::Refused(_) => Weighed {
+            weight: [0u64; 64],
+            basins: 0,
+        },
     }
 }
 
@@ -56,18 +64,12 @@ pub fn prepare(bytes: &[u8]) -> PlanAnswer
     let read = table_reader::read(bytes);
     let verdict = read.verdict;
     let table = read.table;
-    match verdict {
-        Verdict::Accepted => {
-            let plan = plan_of(table);
-            PlanAnswer { verdict, plan }
-        }
-        Verdict::Refused(_) => {
-            let plan = Plan {
-                table,
-                basins: 0,
-                weight: [0u64; 64],
-            };
-            PlanAnswer { verdict, plan }
-        }
-    }
+    let weighed = weigh_accepted(verdict, bytes, table.step, table.elements);
+    let weight = weighed.weight;
+    let plan = Plan {
+        table,
+        basins: weighed.basins,
+        weight,
+    };
+    PlanAnswer { verdict, plan }
 }

@@ -20,19 +20,22 @@ use Rattle.table.specs.Bounds.{TableBounds}
 use Rattle.table.specs.InUse.{valuesOf, tableIn}
 use Rattle.table.specs.Rules.{tableRules}
 use Rattle.table.proofs.TableLaws.{rules-accepted}
+use Rattle.engine.proofs.NextLaws.{next-fits}
 use Rattle.engine.specs.Entries.{stepAnswer, stepOnAnswer, forecastAnswer, forecastOnAnswer}
 use Rattle.table.specs.declared.Verdict.the-variants.{Accepted, Refused}
 use Rattle.table.specs.Tables.{TableValues}
 use Rattle.table.specs.Verdicts.{verdictAnswer}
 use Rattle.state.specs.declared.State.{State}
+use Rattle.state.specs.Rules.{stateFits}
 use Rattle.state.specs.declared.StateAnswer.{StateAnswer}
 use Rattle.state.specs.Answers.{verdict, stateAfter, Answered}
 use Rattle.leads.specs.declared.ForecastAnswer.{ForecastAnswer}
 use Rattle.leads.specs.declared.ForecastAnswer.the-variants as forecasts
 use Rattle.leads.specs.Lent.{layout, countAnswer, countWritten, lentAfter, Lent}
 use Rattle.report.specs.declared.RecordAnswer.{RecordAnswer}
+use Rattle.report.specs.declared.TextAnswer.{TextAnswer}
 use Rattle.report.specs.Records.{Printed, room, figuresLines, refusalPrinted, forecastPrinted, stepPrinted, recordPrinted, recordOnPrinted}
-use Rattle.report.specs.Answers.{Reported}
+use Rattle.report.specs.Answers.{Told, ToldOf, Reported}
 use Rattle.report.proofs.FiguresLaws.{length-layout, few-figures}
 use Rattle.table.proofs.HeldLaws.{few-elements}
 
@@ -49,30 +52,37 @@ pub reported-on :
 reported-on t s a b e h = reported-as (ap (λ bytes. recordOnPrinted t bytes s) e) h
 
 -- a refusal's line
-pub refusal-reported :
-    (s : State) (n code end : ℕ) {before after : List ℕ} {at : ℕ}
+pub refusal-told :
+    (steps n code end : ℕ) {before after : List ℕ} {at : ℕ}
     → code ≡ n
-    → Put before at (refusalLine (s .steps) code) after end
+    → Put before at (refusalLine steps code) after end
     → end ≤ at + 50
-    → Reported (record { state = s; end = end; ended = leb code 10 }) before at after (refusalPrinted s n)
+    → Told (record { end = end; ended = leb code 10 }) before at after (refusalLine steps n) (leb n 10)
+refusal-told steps n code end e p few = record { text = rw e at p; ended = ap (λ k. leb k 10) e; within = omega arith }
+
+-- what is told of a refusal, where another name says the same
+pub told-refusal :
+    (s : State) (n : ℕ) (r : TextAnswer) {before after : List ℕ} {at : ℕ} {p : Printed}
+    → refusalPrinted s n ≡ p
+    → Told r before at after (refusalLine (s .steps) n) (leb n 10)
+    → ToldOf r before at after p
 unfolding refusalPrinted
-refusal-reported s n code end e p few =
-    record { text = rw e at p; state = refl; ended = ap (λ k. leb k 10) e; within = omega arith }
+told-refusal s n r {before} {after} {at} e h = subst (λ (x : Printed). ToldOf r before at after x) e h
 
 -- the lines of an accepted forecast
-pub lines-reported :
+pub lines-told :
     (t : TableValues) (s : State) (answer : Answer (List Figures)) (r : ForecastAnswer) (count end : ℕ) {numbers numbers′ before after : List ℕ} {at : ℕ}
     → Lent r numbers′ answer numbers
     → r ≡ forecasts.Accepted count
     → ((fs : List Figures) → answer ≡ accepted fs → length fs ≡ t .elements * (t .leads + 1))
     → Put before at (answerLines (s .steps) (t .leads + 1) numbers′ (t .elements)) after end
     → end ≤ at + 122304
-    → Reported (record { state = s; end = end; ended = false }) before at after (forecastPrinted t s answer)
+    → ToldOf (record { end = end; ended = false }) before at after (forecastPrinted t s answer)
 unfolding forecastPrinted figuresLines countWritten lentAfter
-lines-reported t s (accepted fs) r count end {numbers} lent e counted p few =
+lines-told t s (accepted fs) r count end {numbers} lent e counted p few =
     let same = lines-before (s .steps) (t .leads + 1) (t .elements) (layout fs) (drop (length (layout fs)) numbers) (omega (arith, length-layout fs, counted fs refl)) in
-    record { text = put-same (ap (λ l. answerLines (s .steps) (t .leads + 1) l (t .elements)) (lent .numbers) ∙ same) p; state = refl; ended = refl; within = few }
-lines-reported t s (refused n) r count end lent e counted p few =
+    record { text = put-same (ap (λ l. answerLines (s .steps) (t .leads + 1) l (t .elements)) (lent .numbers) ∙ same) p; ended = refl; within = few }
+lines-told t s (refused n) r count end lent e counted p few =
     let c : accepted count ≡ refused n = sym (ap countAnswer e) ∙ lent .count in
     let z : _≡_ {A = ℕ} 0 1 = cc in absurd (omega arith)
 
@@ -90,6 +100,24 @@ forecast-refused t s (refused n) r k lent e =
     let c : _≡_ {A = Answer ℕ} (refused (number k)) (refused n) = sym (ap countAnswer e) ∙ lent .count in
     let z : number k ≡ n = cc in
     rw z
+
+-- the state beside the text
+pub with-state :
+    (s : State) (r : TextAnswer) {before after : List ℕ} {at : ℕ} {p q : Printed}
+    → ToldOf r before at after p
+    → s ≡ p .state
+    → p ≡ q
+    → Reported (record { state = s; end = r .end; ended = r .ended }) before at after q
+with-state s r h k e = reported-as e (record { text = h .text; state = k; ended = h .ended; within = h .within })
+
+pub forecast-state : (t : TableValues) (s : State) (answer : Answer (List Figures)) → s ≡ forecastPrinted t s answer .state
+unfolding forecastPrinted refusalPrinted
+forecast-state t s (accepted fs) = refl
+forecast-state t s (refused n) = refl
+
+pub refusal-state : (s : State) (n : ℕ) → s ≡ refusalPrinted s n .state
+unfolding refusalPrinted
+refusal-state s n = refl
 
 -- an accepted step, and the forecast after it
 pub step-accepted :
@@ -138,3 +166,19 @@ record-on table bytes s h =
     (λ next. forecastOnAnswer (tableIn table) next room) =
     fun-ext (λ next. rules-accepted table _ h) in
     rw (e, rules-accepted table (stepOnAnswer (tableIn table) bytes s) h)
+
+-- the state that a record leaves is one that rule 8 accepts, where the state before it was
+pub record-fits :
+    (t : TableValues) (bytes : List ℕ) (s : State)
+    → TableBounds t
+    → stateFits t s ≡ true
+    → stateFits t (recordOnPrinted t bytes s .state) ≡ true
+unfolding recordOnPrinted stepPrinted
+record-fits t bytes s bounds fits = go (stepOnAnswer t bytes s) refl
+  where
+    go :
+        (answer : Answer State)
+        → stepOnAnswer t bytes s ≡ answer
+        → stateFits t (stepPrinted t (λ next. forecastOnAnswer t next room) s answer .state) ≡ true
+    go (accepted next) e = rw (← forecast-state t next (forecastOnAnswer t next room)) (next-fits t bytes s next bounds e)
+    go (refused n) e = rw (← refusal-state s n) fits

@@ -1,12 +1,16 @@
 ghost use mathlib.Core.Path.{_≡_};
+ghost use mathlib.Core.Bool.{true};
 ghost use Prim.Native.Nat.{_+_, _≤_};
+ghost use lib.Dec.{leb};
 ghost use lib.ListN.{length};
 ghost use Rattle.refusal.specs.Refusals.{number};
 ghost use Rattle.table.specs.InUse.{valuesOf};
 ghost use Rattle.plan.specs.Plans.{PlanFits};
+ghost use Rattle.state.specs.Rules.{stateFits};
+ghost use Rattle.lines.specs.Printed.{refusalLine};
 ghost use Rattle.engine.specs.Entries.{forecastOnAnswer};
-ghost use Rattle.report.specs.Records.{refusalPrinted, forecastPrinted, recordOnPrinted};
-ghost use Rattle.report.specs.Answers.{Reported, RecordEnd};
+ghost use Rattle.report.specs.Records.{forecastPrinted, recordOnPrinted};
+ghost use Rattle.report.specs.Answers.{Told, ToldOf, Reported, RecordEnd};
 ghost use Rattle.report.specs.Program.{recordBytes};
 use fields::bytes::read16;
 use leads::ForecastAnswer;
@@ -24,32 +28,37 @@ pub struct RecordAnswer {
     pub ended: bool,
 }
 
-// A refusal's line, put at a place; the state stays.
-fn answer_refusal(refusal: Refusal, state: State, out: &mut [u8], at: usize) -> RecordAnswer
+// The place after a record's text, and whether it ends the run.
+pub struct TextAnswer {
+    pub end: usize,
+    pub ended: bool,
+}
+
+// A refusal's line, put at a place, after so many accepted steps.
+fn answer_refusal(refusal: Refusal, steps: u64, out: &mut [u8], at: usize) -> TextAnswer
     requires { ⌜ at + 50 ≤ length (now out) ⌝ }
-    ensures { λ r. ⌜ Reported r (now (out .entry)) at (now (out .exit)) (refusalPrinted state (number refusal)) ⌝ }
+    ensures { λ r. ⌜ Told r (now (out .entry)) at (now (out .exit)) (refusalLine steps (number refusal)) (leb (number refusal) 10) ⌝ }
 {
     let code = refusal.code();
-    let end = put_refusal(&mut *out, at, state.steps, code);
-    RecordAnswer {
-        state,
+    let end = put_refusal(&mut *out, at, steps, code);
+    TextAnswer {
         end,
         ended: code <= 10,
     }
 }
 
-// The forecast after an accepted step: its lines, or its refusal's.
+// The forecast after an accepted step, which rule 8 never refuses: its lines, or its refusal's.
 fn answer_forecast(
     plan: Plan,
     state: State,
     numbers: &mut [u64],
     out: &mut [u8],
     at: usize,
-) -> RecordAnswer
-    requires { ⌜ PlanFits plan × ((length (now numbers) ≡ 3328) × (at + 122304 ≤ length (now out))) ⌝ }
-    ensures { λ r. ⌜ Reported r (now (out .entry)) at (now (out .exit)) (forecastPrinted (valuesOf (plan .table)) state (forecastOnAnswer (valuesOf (plan .table)) state 3328)) ⌝ }
+) -> TextAnswer
+    requires { ⌜ PlanFits plan × ((stateFits (valuesOf (plan .table)) state ≡ true) × ((length (now numbers) ≡ 3328) × (at + 122304 ≤ length (now out)))) ⌝ }
+    ensures { λ r. ⌜ ToldOf r (now (out .entry)) at (now (out .exit)) (forecastPrinted (valuesOf (plan .table)) state (forecastOnAnswer (valuesOf (plan .table)) state 3328)) ⌝ }
 {
-    let answer = engine::forecast_in(plan, state, &mut *numbers);
+    let answer = leads::forecast_in(plan, state, &mut *numbers);
     match answer {
         ForecastAnswer::Accepted(_) => {
             let leads = plan.table.leads;
@@ -61,17 +70,14 @@ fn answer_forecast(
                 plan.table.elements,
                 leads + 1,
             );
-            RecordAnswer {
-                state,
-                end,
-                ended: false,
-            }
+            TextAnswer { end, ended: false }
         }
-        ForecastAnswer::Refused(refusal) => answer_refusal(refusal, state, &mut *out, at),
+        ForecastAnswer::Refused(refusal) => answer_refusal(refusal, state.steps, &mut *out, at),
     }
 }
 
-// A record on a plan: what it prints is put at a place of lent space; the numbers are lent for its forecast.
+// A record on a plan and a state that rule 8 accepts: what it prints is put at a place of lent space; the numbers are lent for its
+// forecast.
 pub fn answer_record(
     plan: Plan,
     bytes: &[u8],
@@ -80,20 +86,25 @@ pub fn answer_record(
     out: &mut [u8],
     at: usize,
 ) -> RecordAnswer
-    requires { ⌜ PlanFits plan × ((length (now numbers) ≡ 3328) × (at + 122304 ≤ length (now out))) ⌝ }
+    requires { ⌜ PlanFits plan × ((stateFits (valuesOf (plan .table)) state ≡ true) × ((length (now numbers) ≡ 3328) × (at + 122304 ≤ length (now out)))) ⌝ }
     ensures { λ r. ⌜ Reported r (now (out .entry)) at (now (out .exit)) (recordOnPrinted (valuesOf (plan .table)) (now (bytes .entry)) state) ⌝ }
 {
-    let answer = engine::step_with(plan, bytes, state);
+    let answer = engine::step_from(plan, bytes, state);
     let next = answer.state;
     let verdict = answer.verdict;
-    match verdict {
+    let told = match verdict {
         Verdict::Accepted => answer_forecast(plan, next, &mut *numbers, &mut *out, at),
-        Verdict::Refused(refusal) => answer_refusal(refusal, next, &mut *out, at),
+        Verdict::Refused(refusal) => answer_refusal(refusal, next.steps, &mut *out, at),
+    };
+    RecordAnswer {
+        state: next,
+        end: told.end,
+        ended: told.ended,
     }
 }
 
 // How many bytes of the input that is left the next record has.
-fn record_length(rest: &[u8]) -> usize
+pub fn record_length(rest: &[u8]) -> usize
     ensures { λ r. ⌜ RecordEnd (now (rest .entry)) r ⌝ }
 {
     let counted = read16(rest, 0) + 2;
@@ -105,12 +116,7 @@ fn record_length(rest: &[u8]) -> usize
     }
 }
 
-// The first record of the input that is left, and where it ends there.
-pub struct NextAnswer {
-    pub answer: RecordAnswer,
-    pub length: usize,
-}
-
+// The first record of the input that is left.
 pub fn answer_next(
     plan: Plan,
     rest: &[u8],
@@ -118,11 +124,10 @@ pub fn answer_next(
     numbers: &mut [u64],
     out: &mut [u8],
     at: usize,
-) -> NextAnswer
-    requires { ⌜ PlanFits plan × ((length (now numbers) ≡ 3328) × (at + 122304 ≤ length (now out))) ⌝ }
-    ensures { λ r. ⌜ Reported (r .answer) (now (out .entry)) at (now (out .exit)) (recordOnPrinted (valuesOf (plan .table)) (recordBytes (now (rest .entry))) state) × RecordEnd (now (rest .entry)) (r .length) ⌝ }
+) -> RecordAnswer
+    requires { ⌜ PlanFits plan × ((stateFits (valuesOf (plan .table)) state ≡ true) × ((length (now numbers) ≡ 3328) × (at + 122304 ≤ length (now out)))) ⌝ }
+    ensures { λ r. ⌜ Reported r (now (out .entry)) at (now (out .exit)) (recordOnPrinted (valuesOf (plan .table)) (recordBytes (now (rest .entry))) state) ⌝ }
 {
     let length = record_length(rest);
-    let answer = answer_record(plan, &rest[..length], state, &mut *numbers, &mut *out, at);
-    NextAnswer { answer, length }
+    answer_record(plan, &rest[..length], state, &mut *numbers, &mut *out, at)
 }

@@ -1,6 +1,6 @@
 -- Laws of the input that a buffer holds.
 use Prim.Native.Nat.{ℕ, zero, suc, _+_, _-_, _≤_, _<_}
-use mathlib.Core.Bool.{Bool}
+use mathlib.Core.Bool.{Bool, true, false}
 use mathlib.Core.List.{List, [], _∷_, _++_}
 use mathlib.Core.Path.{_≡_, refl, sym, ap, subst, _∙_}
 use native.Mathlib.Nat.{add-comm}
@@ -60,6 +60,10 @@ pub window-after :
     → Within (record { from = w .from + n; have = w .have; more = more }) size
 window-after w n size l more h few =
     record { order = omega (arith, part-short (w .from) (w .have) l, h .order); inside = h .inside }
+
+-- a run that has ended is not one that goes on
+pub not-ended : {ended : Bool} → ended ≡ true → ended ≡ false → ⊥
+not-ended p q = let z : _≡_ {A = ℕ} 0 1 = cc in omega arith
 
 -- nothing is read yet
 pub kept-begin : (l : List ℕ) (w : Window) → Within w (length l) → Kept l (w .from) (w .have) l w

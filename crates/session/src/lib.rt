@@ -1,15 +1,11 @@
-// What the program holds between records, and one record answered: the input and the text are kept in large buffers.
+// What the program holds between records: the input and the text are kept in large buffers.
 ghost use mathlib.Core.Path.{_≡_};
+ghost use mathlib.Core.Bool.{true, false};
 ghost use Prim.Native.Nat.{_+_, _≤_};
 ghost use lib.ListN.{length, take, drop};
 ghost use Rattle.io.specs.Counts.{Counts};
-ghost use Rattle.plan.specs.Plans.{PlanFits};
 ghost use Rattle.session.specs.Windows.{Within, Kept, SessionFits};
 use fields::bytes::read16;
-use plan::Plan;
-use report::NextAnswer;
-use report::answer_next;
-use state::State;
 
 // The input that is read and not used yet: the bytes from one place to another of a buffer, and whether more may follow.
 pub struct Window {
@@ -122,88 +118,44 @@ fn shown(input: &[u8], window: Window, out: &[u8], at: usize) -> usize
     at
 }
 
-// What the program holds between records: the state, the input that is read and not used, the place after the text so far, and
-// whether the run has ended.
+// What the program holds between records beside the state: the input that is read and not used, the place after the text so far,
+// and whether the run has ended.
 pub struct Session {
-    pub state: State,
     pub window: Window,
     pub at: usize,
     pub ended: bool,
 }
 
-// What the program holds after a record: the input from the record's end on.
-fn after_record(next: NextAnswer, window: Window) -> Session
-    requires { ⌜ window .from + next .length ≤ window .have ⌝ }
-    ensures { λ r. ⌜ (r .window ≡ record { from = window .from + next .length; have = window .have; more = window .more }) × (r .at ≡ next .answer .end) ⌝ }
+// Ready for the next record: enough of the input is read, and there is room for its text. The run ends where nothing is held; where
+// it has ended, nothing is read.
+pub fn ready(session: Session, input: &mut [u8], out: &[u8]) -> Session
+    requires { ⌜ SessionFits session (length (now input)) × (length (now out) ≡ 262144) ⌝ }
+    ensures { λ r. ⌜ SessionFits r (length (now (input .entry))) × (((session .ended ≡ true) → r .ended ≡ true) × ((r .ended ≡ false) → r .at ≤ 139840)) ⌝ }
 {
-    let answer = next.answer;
-    let state = answer.state;
+    if session.ended {
+        return session;
+    }
+    let at = shown(&*input, session.window, out, session.at);
+    let window = enough(&mut *input, session.window);
     Session {
-        state,
+        window,
+        at: flushed(out, at),
+        ended: window.from == window.have,
+    }
+}
+
+// After a record of so many bytes: the input from its end on, the place after its text, and whether it ends the run.
+pub fn after_record(window: Window, length: usize, at: usize, ended: bool) -> Session
+    requires { ⌜ window .from + length ≤ window .have ⌝ }
+    ensures { λ r. ⌜ (r .window ≡ record { from = window .from + length; have = window .have; more = window .more }) × (r .at ≡ at) ⌝ }
+{
+    Session {
         window: Window {
-            from: window.from + next.length,
+            from: window.from + length,
             have: window.have,
             more: window.more,
         },
-        at: answer.end,
-        ended: answer.ended,
-    }
-}
-
-// Answers the next record of the input that is held; none is left where nothing is held.
-fn answer_held(
-    plan: Plan,
-    session: Session,
-    input: &[u8],
-    numbers: &mut [u64],
-    out: &mut [u8],
-) -> Session
-    requires { ⌜ PlanFits plan × (SessionFits session (length (now input)) × ((length (now numbers) ≡ 3328) × (length (now out) ≡ 262144))) ⌝ }
-    ensures { λ r. ⌜ SessionFits r (length (now (input .entry))) ⌝ }
-{
-    let window = session.window;
-    let from = window.from;
-    let have = window.have;
-    let state = session.state;
-    if from == have {
-        return Session {
-            state,
-            window,
-            at: session.at,
-            ended: true,
-        };
-    }
-    let at = flushed(&*out, session.at);
-    let next = answer_next(
-        plan,
-        &input[from..have],
-        state,
-        &mut *numbers,
-        &mut *out,
         at,
-    );
-    after_record(next, window)
-}
-
-// Answers the next record, with enough of the input read before.
-pub fn answer_one(
-    plan: Plan,
-    session: Session,
-    input: &mut [u8],
-    numbers: &mut [u64],
-    out: &mut [u8],
-) -> Session
-    requires { ⌜ PlanFits plan × (SessionFits session (length (now input)) × ((length (now numbers) ≡ 3328) × (length (now out) ≡ 262144))) ⌝ }
-    ensures { λ r. ⌜ SessionFits r (length (now (input .entry))) ⌝ }
-{
-    let at = shown(&*input, session.window, &*out, session.at);
-    let window = enough(&mut *input, session.window);
-    let state = session.state;
-    let ready = Session {
-        state,
-        window,
-        at,
-        ended: session.ended,
-    };
-    answer_held(plan, ready, &*input, &mut *numbers, &mut *out)
+        ended,
+    }
 }

@@ -46,14 +46,22 @@ module _ (f : ℕ → ElementState) (places : List ElementState) where
       (λ k. getD-set-other (filled f n places) n i (f n) noPlace (λ e. omega arith) ∙ filled-at n i k (omega arith))
       (eq-or-lt-of-le (omega arith))
 
--- the place of element i at the start
+  -- a place that was not filled yet is as it was
+  pub filled-later : (n i : ℕ) → n ≤ i → getD (filled f n places) i noPlace ≡ getD places i noPlace
+  unfolding filled
+  filled-later zero i l = refl
+  filled-later (suc n) i l =
+      getD-set-other (filled f n places) n i (f n) noPlace (λ e. omega arith) ∙ filled-later n i (omega arith)
+
+-- the place of element i at the start, from places of which those before i are filled
 pub first-place-at :
-    (table : Table) (s : State) (i : ℕ) (x : ElementState)
+    (table : Table) (s : State) (f : ℕ → ElementState) (places : List ElementState) (i : ℕ) (x : ElementState)
     → i < table .elements
-    → x ≡ firstPlace (getD (table .element) i noElement) (getD (s .element) i noPlace)
+    → places ≡ filled f i (s .element)
+    → x ≡ firstPlace (getD (table .element) i noElement) (getD places i noPlace)
     → x ≡ firstPlace (valuesOf table .element i) (placeOf s i)
 unfolding placeOf
-first-place-at table s i x l h = rw (element-held table i l) h
+first-place-at table s f places i x l k h = rw (element-held table i l, ← filled-later f (s .element) i i (omega arith), ← k) h
 
 -- the loop of a start, done
 pub started-done :

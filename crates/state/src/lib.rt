@@ -29,10 +29,10 @@ pub struct State {
     pub element: [ElementState; 64],
 }
 
-// The state after a call, as it was before where the call is refused.
+// The state after a call, as it was before where the call is refused. (The larger field first: the other order costs copies.)
 pub struct StateAnswer {
-    pub verdict: Verdict,
     pub state: State,
+    pub verdict: Verdict,
 }
 
 fn figures_fit(f: Figures) -> bool

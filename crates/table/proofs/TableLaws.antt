@@ -17,7 +17,7 @@ use Rattle.gauges.specs.Gauges.{gaugeAt}
 use Rattle.gauges.specs.Rules.{gaugeFits}
 use Rattle.gauges.proofs.GaugeLaws.{gauge-bounds}
 use Rattle.table.specs.Tables.{TableValues, tableOf}
-use Rattle.table.specs.Rules.{lengthFits, versionFits, countsFit, sizeFits, tableRules}
+use Rattle.table.specs.Rules.{lengthFits, versionFits, countsFit, sizeFits, elementsFit, downsFit, gaugesFit, tableRules}
 use Rattle.table.specs.Bounds.{TableBounds}
 
 module _ {A : Type 0} (bytes : List ℕ) (rest : Answer A) where
@@ -31,16 +31,7 @@ module _ {A : Type 0} (bytes : List ℕ) (rest : Answer A) where
   pub rules-refused : {k : ℕ} → tableRules {A = Unit} bytes (accepted tt) ≡ refused k → tableRules bytes rest ≡ refused k
   rules-refused h = rw (← rules-then, h)
 
--- rules 5 to 7 on all elements and gauges
-abbrev pub elementsFit : TableValues → Bool
-elementsFit t = allBelow (λ i. elementFits (t .step) (t .element i)) (t .elements)
-
-abbrev pub downsFit : TableValues → Bool
-downsFit t = allBelow (downFits (t .elements) (t .element)) (t .elements)
-
-abbrev pub gaugesFit : TableValues → Bool
-gaugesFit t = allBelow (gaugeFits (t .elements) (t .gauge)) (t .gauges)
-
+-- rules 5 to 7
 abbrev pub rulesLeft : {A : Type 0} → TableValues → Answer A → Answer A
 rulesLeft t rest = rule 5 (elementsFit t) (rule 6 (downsFit t) (rule 7 (gaugesFit t) rest))
 

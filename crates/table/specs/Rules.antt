@@ -28,6 +28,16 @@ countsFit t =
 unfoldable pub sizeFits : List ℕ → TableValues → Bool
 sizeFits bytes t = eqb (number32 bytes 0) (6 + 26 * t .elements + 46 * t .gauges)
 
+-- 5 to 7, each on all elements or gauges
+abbrev pub elementsFit : TableValues → Bool
+elementsFit t = allBelow (λ i. elementFits (t .step) (t .element i)) (t .elements)
+
+abbrev pub downsFit : TableValues → Bool
+downsFit t = allBelow (downFits (t .elements) (t .element)) (t .elements)
+
+abbrev pub gaugesFit : TableValues → Bool
+gaugesFit t = allBelow (gaugeFits (t .elements) (t .gauge)) (t .gauges)
+
 -- 1 to 7 in checking order; where all are kept, what follows them decides
 unfoldable pub tableRules : {A : Type 0} → List ℕ → Answer A → Answer A
 tableRules bytes rest =

@@ -1,18 +1,20 @@
 // The table that bytes hold, rules 1 to 7.
 ghost use mathlib.Core.Path.{_≡_};
 ghost use Prim.Native.Nat.{_≤_};
+ghost use mathlib.Core.Bool.{true};
 ghost use Rattle.refusal.specs.Answers.{accepted};
 ghost use Rattle.table.specs.Verdicts.{verdictAnswer};
 ghost use Rattle.table.specs.Tables.{tableOf};
-ghost use Rattle.table.specs.Rules.{tableRules};
-ghost use Rattle.table.specs.Decoded.{Holds, TableRead};
+ghost use Rattle.table.specs.Rules.{countsFit, elementsFit, gaugesFit, tableRules};
+ghost use Rattle.table.specs.Decoded.{TableRead};
 use refusal::Refusal;
 use table::Table;
 use table::TableAnswer;
 use table::Verdict;
 
-// Rules 1 to 7 in checking order.
-pub fn judge(table: &[u8]) -> Verdict
+// Rules 1 to 7 in checking order, where rules 5 and 7 are judged beforehand for the counts that rule 3 accepts.
+fn judge(table: &[u8], n: usize, elements: bool, gauges: bool) -> Verdict
+    requires { ⌜ (n ≤ 64) × (countsFit (tableOf (now table)) ≡ true → (n ≡ tableOf (now table) .elements) × ((elements ≡ elementsFit (tableOf (now table))) × (gauges ≡ gaugesFit (tableOf (now table))))) ⌝ }
     ensures { λ r. ⌜ verdictAnswer r ≡ tableRules (now (table .entry)) (accepted tt) ⌝ }
 {
     if !table::length_fits(table) {
@@ -27,64 +29,44 @@ pub fn judge(table: &[u8]) -> Verdict
     if !table::size_fits(table) {
         return Verdict::Refused(Refusal::TableSize);
     }
-    let n = fields::bytes::byte(table, 8) as usize;
-    let m = fields::bytes::byte(table, 9) as usize;
-    if !element_rules::elements_fit(table, fields::bytes::read16(table, 5), n) {
+    if !elements {
         return Verdict::Refused(Refusal::ElementField);
     }
     if !down_rules::downs_fit(table, n) {
         return Verdict::Refused(Refusal::ElementDown);
     }
-    if !gauge_rules::gauges_fit(table, n, m) {
+    if !gauges {
         return Verdict::Refused(Refusal::GaugeField);
     }
     Verdict::Accepted
 }
 
-// The table that the bytes hold; its counts are within the places.
-fn decode(table: &[u8]) -> Table
-    requires { ⌜ (tableOf (now table) .elements ≤ 64) × (tableOf (now table) .gauges ≤ 16) ⌝ }
-    ensures { λ r. ⌜ Holds r (tableOf (now (table .entry))) ⌝ }
+fn at_most(count: usize, most: usize) -> usize
+    ensures { λ r. ⌜ (r ≤ most) × (count ≤ most → r ≡ count) ⌝ }
 {
-    let n = fields::bytes::byte(table, 8) as usize;
-    let m = fields::bytes::byte(table, 9) as usize;
-    let element = elements::decode(table, n);
-    let gauge = gauges::decode(table, n, m);
-    Table {
-        step: fields::bytes::read16(table, 5),
-        leads: fields::bytes::byte(table, 7) as usize,
+    if count < most { count } else { most }
+}
+
+// The table, or the refusal by rules 1 to 7. Each element and gauge is decoded once, within the places, and judged as it is.
+pub fn read(table: &[u8]) -> TableAnswer
+    ensures { λ r. ⌜ TableRead (now (table .entry)) r ⌝ }
+{
+    let step = fields::bytes::read16(table, 5);
+    let leads = fields::bytes::byte(table, 7) as usize;
+    let n = at_most(fields::bytes::byte(table, 8) as usize, 64);
+    let m = at_most(fields::bytes::byte(table, 9) as usize, 16);
+    let elements = element_rules::read_elements(table, step, n);
+    let gauges = gauge_rules::read_gauges(table, n, m);
+    let verdict = judge(table, n, elements.fit, gauges.fit);
+    let element = elements.element;
+    let gauge = gauges.gauge;
+    let table = Table {
+        step,
+        leads,
         elements: n,
         gauges: m,
         element,
         gauge,
-    }
-}
-
-// A table with no element and no gauge.
-fn empty() -> Table {
-    Table {
-        step: 0,
-        leads: 0,
-        elements: 0,
-        gauges: 0,
-        element: elements::unused(),
-        gauge: gauges::unused(),
-    }
-}
-
-// The table, or the refusal by rules 1 to 7.
-pub fn read(table: &[u8]) -> TableAnswer
-    ensures { λ r. ⌜ TableRead (now (table .entry)) r ⌝ }
-{
-    let verdict = judge(table);
-    match verdict {
-        Verdict::Accepted => {
-            let table = decode(table);
-            TableAnswer { verdict, table }
-        }
-        Verdict::Refused(_) => {
-            let table = empty();
-            TableAnswer { verdict, table }
-        }
-    }
+    };
+    TableAnswer { verdict, table }
 }

@@ -4,6 +4,7 @@ use mathlib.Core.Path.{sym, _∙_}
 use native.Mathlib.Omega.{arith}
 use lib.ListN.{length}
 use Rattle.io.proofs.Counting.{front}
+use Rattle.opening.proofs.OpensLaws.{opened-fits}
 use Rattle.session.proofs.WindowLaws.{session-as, short-part}
 use borrow.Author.Needs.{needs}
 use Rattle.cabinet.proofs.main.Statement.{statement}
@@ -71,7 +72,10 @@ serve-requires c κs =
       o .open .ensures .fits (e .enum-told .given .1),
       (
         session-as (f .first-session .ensures) (i .input-buffer .ensures ∙ sym (r .read-table .kept .0)),
-        (sym (n .number-buffer .ensures), sym (t .text-buffer .ensures)),
+        (
+          sym (n .number-buffer .ensures),
+          (sym (t .text-buffer .ensures), opened-fits _ _ (o .open .ensures) (e .enum-told .given .1)),
+        ),
       ),
     )
 

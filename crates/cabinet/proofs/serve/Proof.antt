@@ -1,52 +1,149 @@
 -- `serve` meets its contract.
 use Prim.Native.Nat.{_-_, _≤_}
-use mathlib.Core.Path.{_≡_, refl, sym, _∙_}
+use mathlib.Core.Bool.{true}
+use mathlib.Core.Logic.{⊎-elim}
+use mathlib.Core.Path.{_≡_, refl, sym, ap, subst, _∙_}
 use native.Mathlib.Omega.{arith}
 use borrow.Author.Needs.{needs}
 use lib.ListN.{length}
-use Rattle.session.specs.Windows.{SessionFits}
-use Rattle.session.proofs.WindowLaws.{session-as}
+use Rattle.table.specs.InUse.{valuesOf}
+use Rattle.state.specs.Rules.{stateFits}
+use Rattle.report.proofs.ReportLaws.{record-fits}
+use Rattle.session.specs.Windows.{Within, SessionFits}
+use Rattle.session.proofs.WindowLaws.{window-after}
 use Rattle.cabinet.proofs.serve.Statement.{statement}
 use Rattle.cabinet.proofs.serve.Tie as tie
 
 abbrev Inv-loop : tie.InvT-loop
-Inv-loop plan input₀ numbers₀ out₀ session₀ count₀ input numbers out session count =
+Inv-loop plan input₀ numbers₀ out₀ state₀ session₀ count₀ input numbers out state session count =
     (count ≤ 100000)
     × (SessionFits session (length input)
-    × ((length input ≡ length input₀) × ((length numbers ≡ length numbers₀) × (length out ≡ length out₀))))
+    × ((length input ≡ length input₀) × ((length numbers ≡ length numbers₀)
+    × ((length out ≡ length out₀) × (stateFits (valuesOf (plan .table)) state ≡ true)))))
 
 abbrev μ-loop : tie.MeasureT-loop
-μ-loop plan input₀ numbers₀ out₀ session₀ count₀ input numbers out session count = 100000 - count
+μ-loop plan input₀ numbers₀ out₀ state₀ session₀ count₀ input numbers out state session count = 100000 - count
 
 loop-holds : tie.Need-loop-holds Inv-loop μ-loop
-loop-holds c = (omega arith, (c .before .before .before .pre .1 .0, (refl, (refl, refl))))
+loop-holds c = (omega arith, (c .before .before .before .pre .1 .0, (refl, (refl, (refl, c .before .before .before .pre .1 .1 .1 .1)))))
 
-answer-one-requires : tie.Need-answer-one-requires Inv-loop μ-loop
-answer-one-requires c κs =
-    let l = c .before .before .before .before .before .loop in
-    let s = c .before .before .before .before .before .before .before .before .before in
-    (s .pre .0, (l .inv .1 .0, (l .inv .1 .1 .1 .0 ∙ s .pre .1 .1 .0, l .inv .1 .1 .1 .1 ∙ s .pre .1 .1 .1)))
+ready-requires : tie.Need-ready-requires Inv-loop μ-loop
+ready-requires c κs =
+    let l = c .before .before .before .before in
+    let s = l .before .before .before .before in
+    (l .loop .inv .1 .0, l .loop .inv .1 .1 .1 .1 .0 ∙ s .pre .1 .1 .1 .0)
+
+-- the input that is ready lies within the buffer
+window-kept :
+    (c : tie.After-window Inv-loop μ-loop)
+    → let r = c .before .before .before .before in Within (r .ready .result .window) (length (r .ready .last .1 .0))
+window-kept c =
+    let r = c .before .before .before .before in
+    subst (Within _) (sym (r .ready .kept .1 .0)) (r .ready .ensures .0 .window)
+
+-- the places of the code, from the end of a turn back to its record's length, its test and the loop
+module _ (c : tie.After-after-record Inv-loop μ-loop) where
+  abbrev counted : tie.After-record-length Inv-loop μ-loop
+  counted = c .before .before .before .before .before .before .before .before .before .before .before
+
+  abbrev turn : tie.In-loop Inv-loop μ-loop
+  turn = counted .before .before .before .before .before .before .before .before .before .before .before
+
+sub-record-length : tie.Need-sub-record-length Inv-loop μ-loop
+sub-record-length c = window-kept c .order
+
+part-record-length-start : tie.Need-part-record-length-start Inv-loop μ-loop
+part-record-length-start c = omega (arith, window-kept (c .before) .order, window-kept (c .before) .inside)
+
+part-record-length-end : tie.Need-part-record-length-end Inv-loop μ-loop
+part-record-length-end c = omega (arith, window-kept (c .before) .order, window-kept (c .before) .inside)
+
+record-length-requires : tie.Need-record-length-requires Inv-loop μ-loop
+record-length-requires c κs = search needs
+
+sub-answer-next : tie.Need-sub-answer-next Inv-loop μ-loop
+sub-answer-next c = window-kept (c .before .before .before) .order
+
+part-answer-next-start : tie.Need-part-answer-next-start Inv-loop μ-loop
+part-answer-next-start c = let w = window-kept (c .before .before .before .before) in omega (arith, w .order, w .inside)
+
+part-answer-next-end : tie.Need-part-answer-next-end Inv-loop μ-loop
+part-answer-next-end c = let w = window-kept (c .before .before .before .before) in omega (arith, w .order, w .inside)
+
+answer-next-requires : tie.Need-answer-next-requires Inv-loop μ-loop
+answer-next-requires c κs =
+    let w = c .before .before .before .before .before .before .before in
+    let r = w .before .before .before .before in
+    let l = r .before .before .before .before .before in
+    let s = l .before .before .before .before in (
+      s .pre .0,
+      (
+        l .loop .inv .1 .1 .1 .1 .1,
+        (l .loop .inv .1 .1 .1 .0 ∙ s .pre .1 .1 .0, omega (arith, r .ready .ensures .1 .1 (w .before .if2 .left), l .loop .inv .1 .1 .1 .1 .0, s .pre .1 .1 .1 .0)),
+      ),
+    )
+
+after-record-requires : tie.Need-after-record-requires Inv-loop μ-loop
+after-record-requires c κs =
+    let a = c .before .before .before .before .before in
+    let n = a .before .before .before .before .before in
+    let w = window-kept (n .before .before .before) in
+    window-after _ _ _ _ true w (n .record-length .ensures .within) .order
 
 add-count : tie.Need-add-count Inv-loop μ-loop
-add-count c = search needs
+add-count c = omega (arith, turn c .loop-test .taken)
 
 loop-less : tie.Need-loop-less Inv-loop μ-loop
-loop-less c = search needs
+loop-less c = omega (arith, turn c .loop-test .taken)
 
 loop-again : tie.Need-loop-again Inv-loop μ-loop
 loop-again c =
-    let l = c .before .before .before .before .before .before .before .before .before .before .before .before .loop in
+    let w = counted c .before .before .before in
+    let l = turn c .before .loop in
+    let r = w .before .before .before .before in
     let a = c .before .before .before .before .before .before in
-    let k = a .answer-one .kept in
-    (omega arith, (session-as (a .answer-one .ensures) (sym (k .1 .1 .0)), (k .1 .1 .0 ∙ l .inv .1 .1 .0, (k .1 .1 .1 .0 ∙ l .inv .1 .1 .1 .0, k .1 .1 .1 .1 .0 ∙ l .inv .1 .1 .1 .1))))
+    let k = a .answer-next .kept in
+    let e = c .after-record .ensures in
+    let few = counted c .record-length .ensures .within in
+    let s = turn c .before .before .before .before .before in (
+      omega (arith, turn c .loop-test .taken),
+      (
+        record {
+          window = rw (e .0) (window-after _ _ _ _ _ (window-kept w) few);
+          text = rw (e .1) (omega (arith, a .answer-next .ensures .within, r .ready .ensures .1 .1 (w .before .if2 .left)));
+        },
+        (
+          r .ready .kept .1 .0 ∙ l .inv .1 .1 .0,
+          (
+            k .1 .1 .1 .0 ∙ l .inv .1 .1 .1 .0,
+            (
+              k .1 .1 .1 .1 .0 ∙ l .inv .1 .1 .1 .1 .0,
+              rw (a .answer-next .ensures .state) (record-fits _ _ _ (s .pre .0 .table) (l .inv .1 .1 .1 .1 .1)),
+            ),
+          ),
+        ),
+      ),
+    )
 
 write-out-requires : tie.Need-write-out-requires Inv-loop μ-loop
 write-out-requires c κs =
-    let l = c .before .before .loop in
-    omega (arith, l .inv .1 .0 .text, l .inv .1 .1 .1 .1)
+    let l = c .before .before in
+    ⊎-elim
+    (λ w. omega (arith, ap (λ s. s .at) (w .2), l .loop .inv .1 .0 .text, l .loop .inv .1 .1 .1 .1 .0))
+    (⊎-elim
+    (λ w. omega (arith, ap (λ s. s .at) (w .3), l .loop .inv .1 .0 .text, l .loop .inv .1 .1 .1 .1 .0))
+    (λ w. omega (arith, ap (λ s. s .at) (w .9), w .4 .ensures .0 .text, l .loop .inv .1 .1 .1 .1 .0)))
+    (c .before .loop-test .came)
 
 same-length : tie.Need-same-length Inv-loop μ-loop
-same-length c = search needs
+same-length c =
+    let l = c .before .before .before in
+    ⊎-elim
+    (λ w. ap length (w .1) ∙ l .loop .inv .1 .1 .0)
+    (⊎-elim
+    (λ w. ap length (w .2) ∙ l .loop .inv .1 .1 .0)
+    (λ w. ap length (w .8) ∙ (w .4 .kept .1 .0 ∙ l .loop .inv .1 .1 .0)))
+    (c .before .before .loop-test .came)
 
 same-length-2 : tie.Need-same-length-2 Inv-loop μ-loop
 same-length-2 c = search needs
@@ -64,7 +161,16 @@ serve-spec =
     Inv-loop
     μ-loop
     loop-holds
-    answer-one-requires
+    ready-requires
+    sub-record-length
+    part-record-length-start
+    part-record-length-end
+    record-length-requires
+    sub-answer-next
+    part-answer-next-start
+    part-answer-next-end
+    answer-next-requires
+    after-record-requires
     add-count
     loop-less
     loop-again

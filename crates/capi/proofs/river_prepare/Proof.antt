@@ -1,7 +1,7 @@
 -- `river_prepare` meets its contract.
 use borrow.Author.Needs.{needs}
 use Rattle.table.proofs.HeldLaws.{table-accepted, table-refused}
-use Rattle.capi.proofs.ReplyLaws.{plan-replied, plan-refused}
+use Rattle.capi.proofs.ReplyLaws.{counts-known, plan-replied, plan-refused}
 use Rattle.capi.proofs.river_prepare.Statement.{statement}
 use Rattle.capi.proofs.river_prepare.Tie as tie
 
@@ -12,7 +12,11 @@ enum-told : tie.Need-enum-told
 enum-told c = search needs
 
 plan-of-requires : tie.Need-plan-of-requires
-plan-of-requires c κs = table-accepted _ _ (c .before .before .read .ensures) (c .enum-told .given .1) .bounds
+plan-of-requires c κs =
+    let e = c .before in
+    let k = table-accepted _ _ (e .before .before .read .ensures) (e .enum-told .given .1) in
+    let n = counts-known _ _ (k .values) in
+    (rw (k .values) at (k .bounds), (n .elements, (n .leads, n .gauges)))
 
 enum-known-verdict : tie.Need-enum-known-verdict
 enum-known-verdict c = search needs
@@ -25,7 +29,7 @@ no-plan-requires c κs = search needs
 
 returns : tie.Need-returns
 returns c =
-    let e = c .before in
+    let e = c .before .before in
     plan-replied _ _ _ (table-accepted _ _ (e .before .before .read .ensures) (e .enum-told .given .1)) (c .plan-of .ensures)
 
 returns-2 : tie.Need-returns-2

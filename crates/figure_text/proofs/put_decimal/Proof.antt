@@ -1,99 +1,104 @@
 -- `put_decimal` meets its contract.
-use mathlib.Core.Path.{_∙_}
+use Prim.Native.Nat.{ℕ, _+_, _≤_}
+use mathlib.Core.List.{List}
+use mathlib.Core.Logic.{⊎-elim}
+use mathlib.Core.Path.{_≡_, sym, ap, subst, _∙_}
+use borrow.Author.Needs.{needs}
 use native.Mathlib.Omega.{arith}
-use Rattle.text.proofs.DecimalLaws.{decimal-four, decimal-eight, decimal-short}
+use lib.ListN.{length}
+use Rattle.text.specs.Decimal.{decimal}
+use Rattle.text.specs.Places.{Put}
 use Rattle.text.proofs.PlacesLaws.{put-then, put-same, put-ends}
+use Rattle.figure_text.specs.Groups.{upperGroups}
+use Rattle.figure_text.proofs.GroupLaws.{first-is-upper, first-and-next, upper-one, upper-and-last}
 use Rattle.figure_text.proofs.put_decimal.Statement.{statement}
 use Rattle.figure_text.proofs.put_decimal.Tie as tie
 
+first-group-requires : tie.Need-first-group-requires
+first-group-requires c κs = search needs
+
 put-short-requires : tie.Need-put-short-requires
-put-short-requires c κs = (omega arith, (omega arith, c .before .before .before .before .pre .1))
-
-same-length : tie.Need-same-length
-same-length c = c .before .before .put-short .kept .0
-
-returns : tie.Need-returns
-returns c = c .before .before .put-short .ensures .0
-
-put-short-requires-2 : tie.Need-put-short-requires-2
-put-short-requires-2 c κs = (omega arith, (omega arith, c .before .before .before .before .before .pre .1))
+put-short-requires c κs = search needs
 
 put-four-requires : tie.Need-put-four-requires
-put-four-requires c κs = (omega arith, (omega arith, c .before .before .before .before .before .before .before .before .before .pre .1))
+put-four-requires c κs = search needs
 
-add-result : tie.Need-add-result
-add-result c = omega arith
+add-end : tie.Need-add-end
+add-end c = search needs
+
+-- what is put, by other names of the space and of the place after it
+put-known : {l : List ℕ} {at : ℕ} {a m n : List ℕ} {i j : ℕ} → n ≡ m → j ≡ i → Put l at a m i → Put l at a n j
+put-known {l} {at} {a} {m} {n} {i} {j} e f p = subst (λ (x : List ℕ). Put l at a x j) (sym e) (put-ends p (sym f))
+
+-- all groups but the last one are put
+module _ (c : tie.Joined1) where
+  abbrev short : tie.After-put-short
+  short = c .before .before .before
+
+  abbrev grouped : tie.After-first-group
+  grouped = short .before .before
+
+  abbrev start : tie.Start
+  start = grouped .before .before .before
+
+  upper : Put (start .args .out .now) (start .args .at) (decimal (upperGroups (start .args .x))) (c .if1 .out) (c .if1 .end)
+  upper =
+      ⊎-elim
+      (λ w. put-known (w .5) (w .6) (put-same (first-and-next _ _ (grouped .first-group .ensures .0) (w .0 .taken) (start .pre .0)) (put-then (short .put-short .ensures .0) (w .2 .ensures))))
+      (λ w. put-known (w .1) (w .2) (put-same (first-is-upper _ _ (grouped .first-group .ensures .0) (omega (arith, w .0 .left))) (short .put-short .ensures .0)))
+      (c .if1 .came)
+
+  whole : length (c .if1 .out) ≡ length (start .args .out .now)
+  whole =
+      ⊎-elim (λ w. ap length (w .5) ∙ (w .2 .kept .0 ∙ short .put-short .kept .0)) (λ w. ap length (w .1) ∙ short .put-short .kept .0)
+      (c .if1 .came)
+
+  few : c .if1 .end ≤ start .args .at + 8
+  few =
+      ⊎-elim (λ w. omega (arith, w .6, short .put-short .ensures .1)) (λ w. omega (arith, w .2, short .put-short .ensures .1))
+      (c .if1 .came)
+
+put-four-requires-2 : tie.Need-put-four-requires-2
+put-four-requires-2 c κs =
+    let j = c .before .before in
+    (omega arith, (omega (arith, few j, whole j, start j .pre .1 .0), start j .pre .1 .1))
+
+add-end-2 : tie.Need-add-end-2
+add-end-2 c =
+    let j = c .before .before .before .before .before .before in
+    omega (arith, few j, start j .good)
+
+same-length : tie.Need-same-length
+same-length c =
+    let f = c .before .before .before in
+    let j = f .before .before .before in
+    f .put-four2 .kept .0 ∙ whole j
+
+returns : tie.Need-returns
+returns c =
+    let f = c .before .before .before in
+    let j = f .before .before .before in
+    put-same (upper-and-last _ (f .before .before .if2 .taken) (start j .pre .0)) (put-then (upper j) (f .put-four2 .ensures))
 
 same-length-2 : tie.Need-same-length-2
-same-length-2 c = let f = c .before .before in f .put-four .kept .0 ∙ f .before .before .before .before .put-short2 .kept .0
+same-length-2 c = whole (c .before)
 
 returns-2 : tie.Need-returns-2
 returns-2 c =
-    let f = c .before .before in
-    let k = f .before .before .before .before in
-    let s = k .before .before .before .before .before .before in
-    put-same (decimal-four (s .args .x) (omega arith) (omega arith)) (put-then (k .put-short2 .ensures .0) (f .put-four .ensures))
-
-put-short-requires-3 : tie.Need-put-short-requires-3
-put-short-requires-3 c κs = (omega arith, (omega arith, c .before .before .before .before .before .before .pre .1))
-
-put-four-requires-2 : tie.Need-put-four-requires-2
-put-four-requires-2 c κs = (omega arith, (omega arith, c .before .before .before .before .before .before .before .before .before .before .pre .1))
-
-add-put-four : tie.Need-add-put-four
-add-put-four c = omega arith
-
-put-four-requires-3 : tie.Need-put-four-requires-3
-put-four-requires-3 c κs = (omega arith, (omega arith, c .before .before .before .before .before .before .before .before .before .before .before .before .before .before .pre .1))
-
-add-result-2 : tie.Need-add-result-2
-add-result-2 c = omega arith
-
-same-length-3 : tie.Need-same-length-3
-same-length-3 c =
-    let g = c .before .before in
-    let f = g .before .before .before .before in
-    g .put-four3 .kept .0 ∙ f .put-four2 .kept .0 ∙ f .before .before .before .before .put-short3 .kept .0
-
-returns-3 : tie.Need-returns-3
-returns-3 c =
-    let g = c .before .before in
-    let f = g .before .before .before .before in
-    let k = f .before .before .before .before in
-    let s = k .before .before .before .before .before .before .before in
-    put-ends
-    (put-same (decimal-eight (s .args .x) (omega arith) (omega arith))
-    (put-then (put-then (k .put-short3 .ensures .0) (f .put-four2 .ensures)) (g .put-four3 .ensures)))
-    (omega arith)
-
-put-digits-requires : tie.Need-put-digits-requires
-put-digits-requires c κs = let s = c .before .before .before .before .before .before in omega (arith, decimal-short (s .args .x), s .pre)
-
-same-length-4 : tie.Need-same-length-4
-same-length-4 c = c .before .before .put-digits .kept .0
-
-returns-4 : tie.Need-returns-4
-returns-4 c = c .before .before .put-digits .ensures
+    let j = c .before in
+    put-same (ap decimal (upper-one _ (omega (arith, c .if2 .left)))) (upper j)
 
 pub put-decimal-spec : {M : Type 1} → statement M
 put-decimal-spec =
     tie.close
     (tie.spec
+    first-group-requires
     put-short-requires
+    put-four-requires
+    add-end
+    put-four-requires-2
+    add-end-2
     same-length
     returns
-    put-short-requires-2
-    put-four-requires
-    add-result
     same-length-2
-    returns-2
-    put-short-requires-3
-    put-four-requires-2
-    add-put-four
-    put-four-requires-3
-    add-result-2
-    same-length-3
-    returns-3
-    put-digits-requires
-    same-length-4
-    returns-4)
+    returns-2)

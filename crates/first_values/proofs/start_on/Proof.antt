@@ -11,12 +11,12 @@ use Rattle.first_values.proofs.start_on.Statement.{statement}
 use Rattle.first_values.proofs.start_on.Tie as tie
 
 abbrev Inv-loop : tie.InvT-loop
-Inv-loop table state n next₀ i₀ next i =
+Inv-loop table n next₀ i₀ next i =
     (i ≤ n)
-    × (next .element ≡ filled (λ k. firstPlace (valuesOf table .element k) (placeOf state k)) i (state .element))
+    × (next .element ≡ filled (λ k. firstPlace (valuesOf table .element k) (placeOf next₀ k)) i (next₀ .element))
 
 abbrev μ-loop : tie.MeasureT-loop
-μ-loop table state n next₀ i₀ next i = n - i
+μ-loop table n next₀ i₀ next i = n - i
 
 loop-holds : tie.Need-loop-holds Inv-loop μ-loop
 unfolding filled
@@ -37,8 +37,8 @@ element-copy-out-first-place-2 c = search needs
 first-place-requires : tie.Need-first-place-requires Inv-loop μ-loop
 first-place-requires c κs = search needs
 
-mul-t19 : tie.Need-mul-t19 Inv-loop μ-loop
-mul-t19 c = search needs
+mul-t17 : tie.Need-mul-t17 Inv-loop μ-loop
+mul-t17 c = search needs
 
 element-set-from-next : tie.Need-element-set-from-next Inv-loop μ-loop
 element-set-from-next c = search needs
@@ -54,7 +54,7 @@ loop-again c =
     let l = c .before .before .before in (
       omega arith,
       filled-again _ _ _ _ _ (l .before .loop .inv .1)
-          (first-place-at _ _ _ _ (l .loop-test .taken) (c .first-place .ensures)),
+          (first-place-at _ _ _ _ _ _ (l .loop-test .taken) (l .before .loop .inv .1) (c .first-place .ensures)),
     )
 
 returns : tie.Need-returns Inv-loop μ-loop
@@ -72,7 +72,7 @@ start-on-spec =
     mul-first-place-2
     element-copy-out-first-place-2
     first-place-requires
-    mul-t19
+    mul-t17
     element-set-from-next
     add-i
     loop-less

@@ -4,9 +4,6 @@ use Rattle.gauges.specs.Rules.{gaugeFits}
 use Rattle.gauge_rules.proofs.gauge_fits.Statement.{statement}
 use Rattle.gauge_rules.proofs.gauge_fits.Tie as tie
 
-gauge-at-requires : tie.Need-gauge-at-requires
-gauge-at-requires c κs = search needs
-
 element-before-requires : tie.Need-element-before-requires
 element-before-requires c κs = search needs
 
@@ -20,14 +17,13 @@ returns : tie.Need-returns
 unfolding gaugeFits
 returns c =
     let b = c .before .before .before .before in
-    let g = b .before .before .before .gauge-at .ensures in
+    let g = b .before .before .before .before .pre .1 in
     rw (c .curve-fits .ensures, c .before .in-range .ensures, b .element-before .ensures, g)
 
 pub gauge-fits-spec : {M : Type 1} → statement M
 gauge-fits-spec =
     tie.close
     (tie.spec
-    gauge-at-requires
     element-before-requires
     in-range-requires
     curve-fits-requires

@@ -1,13 +1,12 @@
 -- `work_element` meets its contract.
 use Prim.Native.Nat.{_+_, _*_, _≤_, _<_, _-_}
-use mathlib.Core.Path.{_≡_, refl, sym, ap, subst, _∙_}
+use mathlib.Core.Path.{_≡_, refl, sym, subst, _∙_}
 use borrow.Author.Needs.{needs}
 use native.Mathlib.Omega.{arith}
 use lib.ListN.{length}
 use Rattle.method.specs.declared.Figures.{Figures}
 use Rattle.method.specs.Figures.{FiguresFit}
 use Rattle.answer_space.specs.Places.{figuresAt, FiguresBelow}
-use Rattle.answer_space.proofs.PlacesLaws.{put-length}
 use Rattle.lead_walk.specs.Worked.{Led}
 use Rattle.lead_walk.proofs.LedLaws.{led-begin}
 use Rattle.lead_walk.proofs.WorkedLaws.{led-next, led-refused, first-is, element-refused, element-accepted}

@@ -1,6 +1,6 @@
 -- `work_step` meets its contract.
-use Prim.Native.Nat.{_+_, _*_, _≤_, _<_, _-_}
-use mathlib.Core.Path.{_≡_, refl, ap}
+use Prim.Native.Nat.{_≤_, _<_, _-_}
+use mathlib.Core.Path.{_≡_, ap}
 use borrow.Author.Needs.{needs}
 use native.Mathlib.Omega.{arith}
 use lib.ListN.{length, getD}

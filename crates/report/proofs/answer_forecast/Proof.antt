@@ -3,8 +3,9 @@ use Prim.Native.Nat.{_+_, _≤_}
 use native.Mathlib.Omega.{arith}
 use Rattle.table.specs.InUse.{valuesOf}
 use Rattle.table.proofs.HeldLaws.{few-elements}
+use Rattle.engine.proofs.EntryLaws.{forecast-state-kept, lent-as}
 use Rattle.report.proofs.FiguresLaws.{figures-count}
-use Rattle.report.proofs.ReportLaws.{reported-as, lines-reported, forecast-refused, few-leads, lines-few}
+use Rattle.report.proofs.ReportLaws.{told-refusal, lines-told, forecast-refused, few-leads, lines-few}
 use borrow.Author.Needs.{needs}
 use Rattle.report.proofs.answer_forecast.Statement.{statement}
 use Rattle.report.proofs.answer_forecast.Tie as tie
@@ -25,15 +26,15 @@ put-lines-requires c κs =
     let f = c .before .before .before .before .before .before in
     let s = f .before .before .before .before in
     let few = lines-few _ (s .pre .0 .table) in (
-      omega (arith, few, s .pre .1 .1),
-      (omega (arith, few, s .pre .1 .0, f .forecast-in .kept), (few-elements _ (s .pre .0 .table), omega (arith, few-leads _ (s .pre .0 .table)))),
+      omega (arith, few, s .pre .1 .1 .1),
+      (omega (arith, few, s .pre .1 .1 .0, f .forecast-in .kept), (few-elements _ (s .pre .0 .table), omega (arith, few-leads _ (s .pre .0 .table)))),
     )
 
 enum-known-answer : tie.Need-enum-known-answer
 enum-known-answer c = search needs
 
 answer-refusal-requires : tie.Need-answer-refusal-requires
-answer-refusal-requires c κs = omega (arith, c .before .before .before .before .before .before .before .before .before .before .pre .1 .1)
+answer-refusal-requires c κs = omega (arith, c .before .before .before .before .before .before .before .before .before .before .pre .1 .1 .1)
 
 same-length : tie.Need-same-length
 same-length c = c .before .before .before .before .before .before .before .before .before .forecast-in .kept .1 .1 .0
@@ -55,8 +56,8 @@ returns c =
     let m = p .before .before .before in
     let f = m .before .before .before .before in
     let s = f .before .before .before .before in
-    lines-reported (valuesOf (s .args .plan .table)) (s .args .state) _ _ _ _
-    (f .forecast-in .ensures) (m .enum-told .given .1) (figures-count _ _ _)
+    lines-told (valuesOf (s .args .plan .table)) (s .args .state) _ _ _ _
+    (lent-as (forecast-state-kept _ _ _ (s .pre .1 .0)) (f .forecast-in .ensures)) (m .enum-told .given .1) (figures-count _ _ _)
     (p .put-lines .ensures .0) (within c)
 
 same-length-3 : tie.Need-same-length-3
@@ -71,8 +72,8 @@ returns-2 c =
     let k = r .before .before in
     let f = k .before .before .before .before .before in
     let s = f .before .before .before .before in
-    reported-as
-    (forecast-refused _ _ _ _ _ (f .forecast-in .ensures) (k .before .answer .given .1)) (r .answer-refusal .ensures)
+    told-refusal _ _ _
+    (forecast-refused _ _ _ _ _ (lent-as (forecast-state-kept _ _ _ (s .pre .1 .0)) (f .forecast-in .ensures)) (k .before .answer .given .1)) (r .answer-refusal .ensures)
 
 pub answer-forecast-spec : {M : Type 1} → statement M
 answer-forecast-spec =

@@ -27,7 +27,7 @@ returns c =
     let r = c .before .before .before .before in
     let e = r .before .before .before .before .record-length .ensures in
     let s = r .before .before .before .before .before .before .before .before in
-    (reported-on (valuesOf (s .args .plan .table)) (s .args .state) _ _ (sym (e .bytes)) (r .answer-record .ensures), e)
+    reported-on (valuesOf (s .args .plan .table)) (s .args .state) _ _ (sym (e .bytes)) (r .answer-record .ensures)
 
 pub answer-next-spec : {M : Type 1} → statement M
 answer-next-spec =

@@ -1,18 +1,24 @@
 -- `answer_record` meets its contract.
+use mathlib.Core.Path.{refl}
 use Rattle.report.specs.Records.{recordOnPrinted}
-use Rattle.report.proofs.ReportLaws.{reported-as, step-accepted, step-refused}
+use Rattle.engine.proofs.NextLaws.{answered-fits}
+use Rattle.report.proofs.ReportLaws.{told-refusal, with-state, forecast-state, refusal-state, step-accepted, step-refused}
 use borrow.Author.Needs.{needs}
 use Rattle.report.proofs.answer_record.Statement.{statement}
 use Rattle.report.proofs.answer_record.Tie as tie
 
-step-with-requires : tie.Need-step-with-requires
-step-with-requires c κs = search needs
+step-from-requires : tie.Need-step-from-requires
+step-from-requires c κs = search needs
 
 enum-told : tie.Need-enum-told
 enum-told c = search needs
 
 answer-forecast-requires : tie.Need-answer-forecast-requires
-answer-forecast-requires c κs = search needs
+answer-forecast-requires c κs =
+    let m = c .before .before in
+    let w = m .before .before .before in
+    let p = w .before .before .before .before .pre in
+    (p .0, (answered-fits _ _ _ _ (p .0 .table) (w .step-from .ensures) (m .enum-told .given .1), p .1 .1))
 
 enum-known-verdict : tie.Need-enum-known-verdict
 enum-known-verdict c = search needs
@@ -21,10 +27,10 @@ answer-refusal-requires : tie.Need-answer-refusal-requires
 answer-refusal-requires c κs = search needs
 
 same-length : tie.Need-same-length
-same-length c = c .before .before .before .before .answer-forecast .kept .1 .1 .0
+same-length c = search needs
 
 same-length-2 : tie.Need-same-length-2
-same-length-2 c = c .before .before .before .before .answer-forecast .kept .1 .1 .1 .0
+same-length-2 c = search needs
 
 returns : tie.Need-returns
 unfolding recordOnPrinted
@@ -32,10 +38,10 @@ returns c =
     let f = c .before .before .before .before in
     let m = f .before .before .before in
     let w = m .before .before .before in
-    reported-as (step-accepted _ _ _ _ _ (w .step-with .ensures) (m .enum-told .given .1)) (f .answer-forecast .ensures)
+    with-state _ _ (f .answer-forecast .ensures) (forecast-state _ _ _) (step-accepted _ _ _ _ _ (w .step-from .ensures) (m .enum-told .given .1))
 
 same-length-3 : tie.Need-same-length-3
-same-length-3 c = c .before .before .answer-refusal .kept .1 .1 .0
+same-length-3 c = search needs
 
 returns-2 : tie.Need-returns-2
 unfolding recordOnPrinted
@@ -43,13 +49,14 @@ returns-2 c =
     let r = c .before .before in
     let k = r .before .before in
     let w = k .before .before .before .before in
-    reported-as (step-refused _ _ _ _ _ _ (w .step-with .ensures) (k .before .verdict .given .1)) (r .answer-refusal .ensures)
+    with-state _ _ (told-refusal _ _ _ refl (r .answer-refusal .ensures)) (refusal-state _ _)
+    (step-refused _ _ _ _ _ _ (w .step-from .ensures) (k .before .verdict .given .1))
 
 pub answer-record-spec : {M : Type 1} → statement M
 answer-record-spec =
     tie.close
     (tie.spec
-    step-with-requires
+    step-from-requires
     enum-told
     answer-forecast-requires
     enum-known-verdict

@@ -1,13 +1,13 @@
 -- `judge` meets its contract.
 use Prim.{Unit}
-use Prim.Native.Nat.{ℕ, _≤_}
-use mathlib.Core.Path.{_≡_, _∙_}
+use Prim.Native.Nat.{ℕ}
+use mathlib.Core.Path.{_≡_, sym, _∙_}
 use mathlib.Core.List.{List}
 use borrow.Author.Needs.{needs}
 use Rattle.refusal.specs.Answers.{accepted}
-use Rattle.table.specs.Tables.{TableValues, tableOf}
-use Rattle.table.specs.Rules.{tableRules}
-use Rattle.table.proofs.TableLaws.{HeaderKept, kept, broken, header-left, counts-bounds, elements-read, gauges-read, elements-judged, downs-judged, gauges-judged, elementsFit, downsFit, gaugesFit, rulesLeft}
+use Rattle.table.specs.Tables.{tableOf}
+use Rattle.table.specs.Rules.{elementsFit, downsFit, gaugesFit, tableRules}
+use Rattle.table.proofs.TableLaws.{HeaderKept, kept, broken, header-left, elements-read, downs-judged, rulesLeft}
 use Rattle.table_reader.proofs.judge.Statement.{statement}
 use Rattle.table_reader.proofs.judge.Tie as tie
 
@@ -69,79 +69,50 @@ header c =
       size = kept (c .before .size-fits .ensures) (c .if4 .left);
     }
 
-byte-requires : tie.Need-byte-requires
-byte-requires c κs = search needs
-
-byte-requires-2 : tie.Need-byte-requires-2
-byte-requires-2 c κs = search needs
-
-read16-requires : tie.Need-read16-requires
-read16-requires c κs = search needs
-
--- N and M are those of the table, and within the places
-n-read : (c : tie.After-byte) → c .byte .result ≡ tableOf (bytes (c .before)) .elements
-n-read c = c .byte .ensures .0 ∙ elements-read _
-
-n-most : (c : tie.After-byte) → c .byte .result ≤ 64
-n-most c = rw (n-read c) (counts-bounds _ (header (c .before) .counts) .elementsMost)
-
-m-read : (c : tie.After-byte2) → c .byte2 .result ≡ tableOf (bytes (c .before .before)) .gauges
-m-read c = c .byte2 .ensures .0 ∙ gauges-read _
-
-m-most : (c : tie.After-byte2) → c .byte2 .result ≤ 16
-m-most c = rw (m-read c) (counts-bounds _ (header (c .before .before) .counts) .gaugesMost)
-
-elements-fit-requires : tie.Need-elements-fit-requires
-elements-fit-requires c κs = n-most (c .before .before)
-
--- rules 5 to 7 as they were worked out
-abbrev table : tie.After-read16 → TableValues
-table c = tableOf (bytes (c .before .before .before))
-
-elements : (c : tie.After-elements-fit) → c .elements-fit .result ≡ elementsFit (table (c .before))
-elements c =
-    let r = c .before in elements-judged _ (r .read16 .ensures .0) (r .before .before .byte .ensures .0) (c .elements-fit .ensures)
-
-downs : (c : tie.After-downs-fit) → c .downs-fit .result ≡ downsFit (table (c .before .before .before))
-downs c = downs-judged _ (c .before .before .before .before .before .byte .ensures .0) (c .downs-fit .ensures)
-
-gauges : (c : tie.After-gauges-fit) → c .gauges-fit .result ≡ gaugesFit (table (c .before .before .before .before .before))
-gauges c =
-    let m = c .before .before .before .before .before .before in
-    gauges-judged _ (m .before .byte .ensures .0) (m .byte2 .ensures .0) (c .gauges-fit .ensures)
-
 left :
-    (c : tie.After-elements-fit)
-    → tableRules {A = Unit} (bytes (c .before .before .before .before)) (accepted tt) ≡ rulesLeft (table (c .before)) (accepted tt)
-left c = header-left _ _ (header (c .before .before .before .before))
+    (c : tie.Else4) → tableRules {A = Unit} (bytes c) (accepted tt) ≡ rulesLeft (tableOf (bytes c)) (accepted tt)
+left c = header-left _ _ (header c)
+
+-- what was judged beforehand
+abbrev start : tie.Else4 → tie.Start
+start c = c .before .before .before .before .before .before .before .before .before
+
+n-read : (c : tie.Else4) → start c .args .n ≡ tableOf (bytes c) .elements
+n-read c = start c .pre .1 (header c .counts) .0
+
+elements : (c : tie.Else4) → start c .args .elements ≡ elementsFit (tableOf (bytes c))
+elements c = start c .pre .1 (header c .counts) .1 .0
+
+gauges : (c : tie.Else4) → start c .args .gauges ≡ gaugesFit (tableOf (bytes c))
+gauges c = start c .pre .1 (header c .counts) .1 .1
 
 returns-5 : tie.Need-returns-5
 returns-5 c = rw (left (c .before), broken (elements (c .before)) (c .if5 .taken))
 
 downs-fit-requires : tie.Need-downs-fit-requires
-downs-fit-requires c κs = n-most (c .before .before .before .before)
+downs-fit-requires c κs = search needs
+
+downs : (c : tie.After-downs-fit) → c .downs-fit .result ≡ downsFit (tableOf (bytes (c .before .before)))
+downs c = downs-judged _ (n-read (c .before .before) ∙ sym (elements-read _)) (c .downs-fit .ensures)
 
 returns-6 : tie.Need-returns-6
 returns-6 c =
     let five = c .before .before in
     rw (left (five .before), kept (elements (five .before)) (five .if5 .left), broken (downs (c .before)) (c .if6 .taken))
 
-gauges-fit-requires : tie.Need-gauges-fit-requires
-gauges-fit-requires c κs = let m = c .before .before .before .before .before in (n-most (m .before), m-most m)
-
 returns-7 : tie.Need-returns-7
 returns-7 c =
-    let six = c .before .before in
+    let six = c .before in
     let five = six .before .before in
     let fits = kept (elements (five .before)) (five .if5 .left) in
-    rw (left (five .before), fits, kept (downs (six .before)) (six .if6 .left), broken (gauges (c .before)) (c .if7 .taken))
+    rw (left (five .before), fits, kept (downs (six .before)) (six .if6 .left), broken (gauges (five .before)) (c .if7 .taken))
 
 returns-8 : tie.Need-returns-8
 returns-8 c =
-    let six = c .before .before in
+    let six = c .before in
     let five = six .before .before in
     let fits = kept (elements (five .before)) (five .if5 .left) in
-    rw (left (five .before), fits, kept (downs (six .before)) (six .if6 .left), kept (gauges (c .before)) (c .if7 .left))
+    rw (left (five .before), fits, kept (downs (six .before)) (six .if6 .left), kept (gauges (five .before)) (c .if7 .left))
 
 pub judge-spec : {M : Type 1} → statement M
 judge-spec =
@@ -155,13 +126,8 @@ judge-spec =
     returns-3
     size-fits-requires
     returns-4
-    byte-requires
-    byte-requires-2
-    read16-requires
-    elements-fit-requires
     returns-5
     downs-fit-requires
     returns-6
-    gauges-fit-requires
     returns-7
     returns-8)

@@ -1,10 +1,10 @@
--- `element_at` meets its contract.
+-- `partial_element` meets its contract.
 use borrow.Author.Needs.{needs}
 use mathlib.Core.Path.{refl}
 use Rattle.elements.specs.Elements.{elementAt}
 use Rattle.elements.proofs.ElementLaws.{place-fits, place-16, place-32}
-use Rattle.elements.proofs.element_at.Statement.{statement}
-use Rattle.elements.proofs.element_at.Tie as tie
+use Rattle.elements.proofs.partial_element.Statement.{statement}
+use Rattle.elements.proofs.partial_element.Tie as tie
 
 mul-at : tie.Need-mul-at
 mul-at c = search needs
@@ -85,8 +85,8 @@ returns c =
       c .read325 .ensures .0,
     )
 
-pub element-at-spec : {M : Type 1} → statement M
-element-at-spec =
+pub partial-element-spec : {M : Type 1} → statement M
+partial-element-spec =
     tie.close
     (tie.spec
     mul-at
