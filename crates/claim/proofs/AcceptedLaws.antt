@@ -21,8 +21,8 @@ use Rattle.network.specs.Step.{stepped, stepNumbers}
 use Rattle.network.specs.Forecast.{leadNumbers}
 use Rattle.leads.specs.Answer.{forecastFigures, spaceFits, leadsAnswer}
 use Rattle.engine.specs.Entries.{startAnswer, inputsIn, stepOnAnswer, stepAnswer, forecastOnAnswer, forecastAnswer}
-use Rattle.engine.proofs.NextLaws.{rules-kept}
-use Rattle.claim.proofs.CeilingLaws.{Under, let-through}
+use Rattle.lead_walk.proofs.UnderLaws.{Under}
+use Rattle.engine.proofs.NextLaws.{rules-kept, under-kept}
 
 -- rules before an accepted answer are kept
 pub table-kept :
@@ -66,7 +66,7 @@ stepping table bytes s next h =
     let b = rule-kept 8 (stateFits t s) _ (a .1) in
     let c = rule-kept 9 (stepsLeft s) _ (b .1) in
     let d = rules-kept t bytes _ (c .1) in
-    let e = let-through (stepNumbers t (inputsIn t bytes) s) (stepped t (inputsIn t bytes) s) (d .1) in
+    let e = under-kept (stepNumbers t (inputsIn t bytes) s) (stepped t (inputsIn t bytes) s) (d .1) in
     (record { fits = b .0; kept = d .0; under = e .1 }, e .0)
 
 -- what the rules give of an accepted forecast, and its answer
@@ -84,5 +84,5 @@ forecasting table s room figures h =
     let a = table-kept table _ h in
     let b = rule-kept 8 (stateFits t s) _ (a .1) in
     let c = rule-kept 15 (spaceFits t room) _ (b .1) in
-    let d = let-through (leadNumbers t s (t .leads)) (forecastFigures t s) (c .1) in
+    let d = under-kept (leadNumbers t s (t .leads)) (forecastFigures t s) (c .1) in
     (record { fits = b .0; under = d .1 }, d .0)

@@ -24,7 +24,8 @@ use Rattle.claim.specs.CabinetRun.{stateHanded}
 use Rattle.claim.specs.FractionRun.{exactStateHanded, exactForecastHanded}
 use Rattle.claim.specs.Claim.{Pairwise, All, WithinMargins, UnderLimit}
 use Rattle.claim.proofs.ListLaws.{near-listed, near-by-lead, every-listed, every-by-lead}
-use Rattle.claim.proofs.CeilingLaws.{inflow-under, new-under, lead-under}
+use Rattle.engine.proofs.NextLaws.{new-fit}
+use Rattle.claim.proofs.CeilingLaws.{inflow-under, lead-under}
 use Rattle.claim.proofs.AcceptedLaws.{Forecasting}
 use Rattle.claim.proofs.TogetherLaws.{Limited, Together, state-under}
 
@@ -61,8 +62,8 @@ module _ (t : TableValues) (s : State) (x : ExactState) (heard : ℕ → Bool) (
     unfolding leadFigures noObservation
     lead-fits zero m i l = state-under t s (call .fits) i l
     lead-fits (suc lead) m i l =
-        new-under t (forecastOwn t s (suc lead)) noObservation (leadFigures t s lead)
-        (lead-under t s (t .leads) lead m (call .under)) i l refl
+        new-fit t (forecastOwn t s (suc lead)) noObservation (leadFigures t s lead) (t .elements) i l
+        (lead-under t s (t .leads) lead m (call .under)) .discharge
 
     -- a basin's inflow has margin 1
     own-margin : (lead i : ℕ) → forecastOwn t s lead i .«discharge_margin» .0 ≤ 1

@@ -17,7 +17,7 @@ use Rattle.record.specs.Decoded.{noInput}
 use Rattle.network.specs.Step.{observationIn}
 use Rattle.engine.specs.Entries.{inputsIn}
 use Rattle.claim.specs.CabinetRun.{isReading, heardAfter}
-use Rattle.claim.proofs.CeilingLaws.{both-fail}
+use Rattle.lead_walk.proofs.UnderLaws.{neither}
 
 module _ (t : TableValues) (bytes : List ℕ) where
   -- what a record tells an element in use
@@ -62,4 +62,4 @@ module _ (t : TableValues) (bytes : List ℕ) where
     unheard-tells i l h =
         ap (λ (q : Input). q .observation) (input-told i l)
         ∙ gaps-tell i (t .gauges)
-        (both-fail (heard (suc i)) _ (subst (λ (k : ℕ). heardAfter t bytes heard k ≡ false) (add-one i) h) .1)
+        (neither (heard (suc i)) _ (subst (λ (k : ℕ). heardAfter t bytes heard k ≡ false) (add-one i) h) .1)

@@ -53,19 +53,6 @@ module _ {A : Type 0} (P : A → Type 0) where
       all-append (all-by-lead f n w (λ i lead l m. h i lead (omega arith) m))
       (all-listed (f n) w (λ lead m. h n lead (omega arith) m))
 
--- what holds of two lists one after the other holds of each
-module _ {A : Type 0} (P : A → Type 0) where
-  pub all-first : (xs ys : List A) → All P (xs ++ ys) → All P xs
-  all-first [] ys h = none
-  all-first (x ∷ xs) ys (more p rest) = more p (all-first xs ys rest)
-
-  pub all-last : (xs ys : List A) → All P (xs ++ ys) → All P ys
-  all-last [] ys h = h
-  all-last (x ∷ xs) ys (more p rest) = all-last xs ys rest
-
-  pub all-head : {x : A} {xs : List A} → All P (x ∷ xs) → P x
-  all-head (more p rest) = p
-
 -- how many places the lists have
 module _ {A : Type 0} where
   listed-length : (f : ℕ → A) (n : ℕ) → length (listed f n) ≡ n

@@ -26,7 +26,6 @@ use Rattle.elements.specs.Bounds.{ElementBounds}
 use Rattle.table.specs.Tables.{TableValues}
 use Rattle.table.specs.Bounds.{TableBounds}
 use Rattle.table.specs.declared.Verdict.the-variants.{Accepted}
-use Rattle.table.specs.Verdicts.{verdictAnswer}
 use Rattle.table.proofs.InUseLaws.{below-used}
 use Rattle.record.specs.declared.Observation.{Observation}
 use Rattle.record.specs.declared.Observation.the-variants.{Nothing, Rated}
@@ -39,7 +38,8 @@ use Rattle.state.specs.declared.Rains.{Rains}
 use Rattle.state.specs.declared.ElementState.{ElementState}
 use Rattle.state.specs.declared.State.{State}
 use Rattle.state.specs.declared.StateAnswer.{StateAnswer}
-use Rattle.state.specs.Answers.{verdict, stateAfter, Answered}
+use Rattle.state.specs.Answers.{Answered}
+use Rattle.state.proofs.AnswerLaws.{answered-next}
 use Rattle.state.specs.States.{noRains, noPlace, placeOf, filled}
 use Rattle.state.specs.Start.{firstRains, firstPlace, started}
 use Rattle.state.proofs.StateLaws.{filled-at}
@@ -55,7 +55,7 @@ use Rattle.engine.specs.Entries.{inputsIn, stepOnAnswer}
 -- ---- the figures
 
 -- the first number of a list under the ceiling
-first-under : (n : ℕ) (ns : List ℕ) → Under (n ∷ ns) → (n ≤ C) × Under ns
+pub first-under : (n : ℕ) (ns : List ℕ) → Under (n ∷ ns) → (n ≤ C) × Under ns
 unfolding somePasses
 first-under n ns u = go (ltb C n) refl u
   where
@@ -99,7 +99,7 @@ module _ (t : TableValues) (own : ℕ → Figures) (o : ℕ → Observation) (ol
   numbersOf i = elementNumbers (weightOf t i) (t .element i) (own i) (o i) (aboveOf t own o old i) (old i)
 
   -- the numbers of one element
-  element-under : (m i : ℕ) → i < m → Under (networkNumbers t own o old m) → Under (numbersOf i)
+  pub element-under : (m i : ℕ) → i < m → Under (networkNumbers t own o old m) → Under (numbersOf i)
   unfolding networkNumbers
   element-under zero i l u = absurd (omega arith)
   element-under (suc m) i l u =
@@ -107,7 +107,8 @@ module _ (t : TableValues) (own : ℕ → Figures) (o : ℕ → Observation) (ol
       ⊎-elim (λ e. subst (λ k. Under (numbersOf k)) (sym e) (p .1)) (λ k. element-under m i k (p .0))
       (eq-or-lt-of-le (omega arith))
 
-  new-fit : (m i : ℕ) → i < m → Under (networkNumbers t own o old m) → FiguresFit (newFigures t own o old i)
+  -- its new figures
+  pub new-fit : (m i : ℕ) → i < m → Under (networkNumbers t own o old m) → FiguresFit (newFigures t own o old i)
   unfolding newFigures newCell networkCell elementStep elementNumbers aboveOf
   new-fit m i l u =
       moved-fit _ _ _ _ _
@@ -170,7 +171,8 @@ rules-kept t bytes rest {a} h = go (recordRules {A = Unit} t bytes (accepted tt)
     go (accepted u) e = (e, sym (record-laws.rules-accepted t bytes rest e) ∙ h)
     go (refused k) e = absurd (not-both h (record-laws.rules-refused t bytes rest e))
 
-under-kept : {A : Type 0} (ns : List ℕ) (a : A) {x : A} → underCeiling ns a ≡ accepted x → (x ≡ a) × Under ns
+-- an answer that rule 16 lets through
+pub under-kept : {A : Type 0} (ns : List ℕ) (a : A) {x : A} → underCeiling ns a ≡ accepted x → (x ≡ a) × Under ns
 unfolding underCeiling
 under-kept {A} ns a {x} h = go (somePasses ns) refl h
   where
@@ -237,14 +239,7 @@ pub answered-fits :
     → Answered a (stepOnAnswer t bytes s) s
     → a .verdict ≡ Accepted
     → stateFits t (a .state) ≡ true
-unfolding verdict stateAfter
-answered-fits t bytes s a bounds h v = go (stepOnAnswer t bytes s) refl h
-  where
-    go : (answer : Answer State) → stepOnAnswer t bytes s ≡ answer → Answered a answer s → stateFits t (a .state) ≡ true
-    go (accepted next) e k = rw (k .state) (next-fits t bytes s next bounds e)
-    go (refused n) e k =
-        let c : accepted tt ≡ refused n = sym (ap verdictAnswer v) ∙ k .verdict in
-        let z : _≡_ {A = ℕ} 0 1 = cc in absurd (omega arith)
+answered-fits t bytes s a bounds h v = next-fits t bytes s (a .state) bounds (answered-next a _ s h v)
 
 -- ---- the start
 

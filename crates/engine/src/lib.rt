@@ -61,7 +61,7 @@ pub fn step_from(plan: Plan, bytes: &[u8], state: State) -> StateAnswer
 }
 
 // A step on a plan and the bytes of a record: rules 8 to 14 and 16.
-pub fn step_with(plan: Plan, bytes: &[u8], state: State) -> StateAnswer
+fn step_with(plan: Plan, bytes: &[u8], state: State) -> StateAnswer
     requires { ⌜ PlanFits plan ⌝ }
     ensures { λ r. ⌜ Answered r (stepOnAnswer (valuesOf (plan .table)) (now (bytes .entry)) state) state ⌝ }
 {
@@ -85,7 +85,7 @@ pub fn step(table: &[u8], bytes: &[u8], state: State) -> StateAnswer
 }
 
 // A forecast on a plan into lent space: rules 8, 15 and 16.
-pub fn forecast_with(plan: Plan, state: State, out: &mut [u64]) -> ForecastAnswer
+fn forecast_with(plan: Plan, state: State, out: &mut [u64]) -> ForecastAnswer
     requires { ⌜ PlanFits plan ⌝ }
     ensures { λ r. ⌜ Lent r (now (out .exit)) (forecastOnAnswer (valuesOf (plan .table)) state (length (now (out .entry)))) (now (out .entry)) ⌝ }
 {

@@ -53,9 +53,6 @@ range-bounds x low high h =
     let k = both (leb low x) (leb x high) h in
     (leb-true _ _ (k .0), leb-true _ _ (k .1))
 
-pub range-holds : (x low high : ℕ) → low ≤ x → x ≤ high → inRange x low high ≡ true
-range-holds x low high l m = rw (le-leb _ _ l, le-leb _ _ m)
-
 module _ (test : ℕ → Bool) where
   -- what holds of all below n holds of each
   pub all-at : (n k : ℕ) → k < n → allBelow test n ≡ true → test k ≡ true

@@ -164,19 +164,19 @@ module _ (table : Table) (input : List Input) (s : State) where
     place-known x rains hx hr =
         rw (hx ∙ after-step (valuesOf table) told s i, hr, element-held table i l, told-held)
 
-    module _ (weights : List ℕ) (brought : ℕ) (w : WeightsHeld weights table (table .elements)) (b : Brought brought) (next : State) (answer₀ sums₀ : List ℕ) (h : Stepping i next answer₀ sums₀) where
+    module _ (weights : List ℕ) (brought : ℕ) (w : WeightsHeld weights table (table .elements)) (b : Brought brought) (c : Course) (same : c ≡ courseAt (getD weights i 0) brought) (next : State) (answer₀ sums₀ : List ℕ) (h : Stepping i next answer₀ sums₀) where
       abbrev firstAt : Figures
       firstAt = getD (s .element) i noPlace .figures
 
       -- one element more, in the state as the code leaves it
       pub stepping-again :
           (answer sums : List ℕ) (x : Figures) (rains : Rains)
-          → Led (courseAt (getD weights i 0) brought) firstAt i 2 1 answer₀ answer sums₀ sums
+          → Led c firstAt i 2 1 answer₀ answer sums₀ sums
           → x ≡ figuresAt answer (i * 2 + 1)
           → rains ≡ rainsAfter (getD (table .element) i noElement .kind) (getD input i noInput .rain) (getD (s .element) i noPlace .rains)
           → Stepping (i + 1) (record { elements = next .elements; steps = next .steps; element = set (next .element) i (record { figures = x; rains = rains }) }) answer sums
       stepping-again answer sums x rains g hx hr =
-          let k = walked-again _ _ _ _ _ i 1 (course-of weights brought w b) (after-again (valuesOf table) told s) _ first-held 2 _ _ (h .walked) answer sums g refl in
+          let k = walked-again _ _ _ _ _ i 1 (course-of weights brought w b) (after-again (valuesOf table) told s) _ first-held 2 _ _ (h .walked) answer sums (subst (λ (x : Course). Led x firstAt i 2 1 answer₀ answer sums₀ sums) same g) refl in
           record {
             elements = h .elements;
             steps = h .steps;
@@ -185,13 +185,14 @@ module _ (table : Table) (input : List Input) (s : State) where
           }
 
       -- element i refuses, and with it the step
-      part : Under (stepNumbers (valuesOf table) told s) → Under (courseAll (courseAt (getD weights i 0) brought) firstAt (drainedAt sums₀ 2 i) 1)
+      part : Under (stepNumbers (valuesOf table) told s) → Under (courseAll c firstAt (drainedAt sums₀ 2 i) 1)
       part u =
-          course-under _ _ _ _ _ i 1 (course-of weights brought w b) (after-again (valuesOf table) told s) _ first-held 2 _ _ (h .walked) (table .elements) l (λ lead m. numbers-before lead (omega arith) u)
+          rw same
+          (course-under _ _ _ _ _ i 1 (course-of weights brought w b) (after-again (valuesOf table) told s) _ first-held 2 _ _ (h .walked) (table .elements) l (λ lead m. numbers-before lead (omega arith) u))
 
       pub stepping-refused :
           (v : Verdict) {k : Refusal}
-          → verdictAnswer v ≡ underCeiling {A = Unit} (courseAll (courseAt (getD weights i 0) brought) firstAt (drainedAt sums₀ 2 i) 1) tt
+          → verdictAnswer v ≡ underCeiling {A = Unit} (courseAll c firstAt (drainedAt sums₀ 2 i) 1) tt
           → v ≡ Refused k
           → underCeiling (stepNumbers (valuesOf table) told s) (stepped (valuesOf table) told s) ≡ refused 16
       stepping-refused v q e = sym (refused-whole _ _ _ part (sym (ap verdictAnswer e) ∙ q))

@@ -2,6 +2,7 @@ ghost use mathlib.Core.Path.{_≡_};
 ghost use Prim.Native.Nat.{_≤_};
 ghost use lib.ListN.{length, replicate};
 ghost use Rattle.units.specs.Ceiling.{underCeiling};
+ghost use Rattle.method.specs.Inflow.{meanRainInflow};
 ghost use Rattle.table.specs.InUse.{valuesOf};
 ghost use Rattle.plan.specs.Plans.{PlanFits};
 ghost use Rattle.state.specs.Answers.{Answered};
@@ -9,6 +10,7 @@ ghost use Rattle.network.specs.Step.{stepped, stepNumbers};
 ghost use Rattle.network.specs.Bounds.{inputsOf, InputsFit, FiguresUnder};
 use answer_space::figures_at;
 use element_step::rains_after;
+use elements::Element;
 use inflow::mean_rain_inflow;
 use lead_walk::work_element;
 use one_lead::Course;
@@ -19,6 +21,22 @@ use state::ElementState;
 use state::State;
 use state::StateAnswer;
 use table::Verdict;
+
+// What a step takes of one element: its one rain, lead 0, and what its gauge tells.
+fn step_course(element: Element, weight: u64, told: Input) -> Course
+    requires { ⌜ (told .rain ≤ 9000) × ((element .area ≤ 400000) × (element .runoff ≤ 1000)) ⌝ }
+    ensures { λ r. ⌜ r ≡ record { element = element; weight = weight; brought = meanRainInflow (told .rain) 1 (element .area) (element .runoff); lead = 0; observation = told .observation } ⌝ }
+{
+    let observation = told.observation;
+    let brought = mean_rain_inflow(told.rain, 1, element.area, element.runoff);
+    Course {
+        element,
+        weight,
+        brought,
+        lead: 0,
+        observation,
+    }
+}
 
 // All elements, one after the other: each is worked out as one lead, of number 0, from what those above it have let out, and its new
 // figures go into the state.
@@ -40,15 +58,7 @@ fn work_step(
         let element = table.element[i];
         let place = state.element[i];
         let told = input[i];
-        let observation = told.observation;
-        let brought = mean_rain_inflow(told.rain, 1, element.area, element.runoff);
-        let course = Course {
-            element,
-            weight: weight[i],
-            brought,
-            lead: 0,
-            observation,
-        };
+        let course = step_course(element, weight[i], told);
         let Verdict::Accepted = work_element(course, place.figures, i, 1, &mut *answer, &mut *sums)
         else {
             return StateAnswer {

@@ -78,7 +78,7 @@ fn answer_forecast(
 
 // A record on a plan and a state that rule 8 accepts: what it prints is put at a place of lent space; the numbers are lent for its
 // forecast.
-pub fn answer_record(
+fn answer_record(
     plan: Plan,
     bytes: &[u8],
     state: State,

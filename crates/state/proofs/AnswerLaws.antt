@@ -1,7 +1,5 @@
 -- Laws of an entry's answer.
-use Prim.{Unit}
-use Prim.Native.Nat.{ℕ}
-use mathlib.Core.Path.{_≡_, sym, ap, _∙_}
+use mathlib.Core.Path.{_≡_, sym, ap}
 use Rattle.refusal.specs.Refusals.{number}
 use Rattle.refusal.specs.Answers.{Answer, accepted, refused}
 use Rattle.refusal.specs.declared.Refusal.{Refusal}
@@ -43,26 +41,3 @@ answered-next r answer before h e = go answer (h .verdict) (h .state)
         → answer ≡ accepted (r .state)
     go (accepted next) v s = ap accepted (sym s)
     go (refused n) v s = absurd (not-both (ap verdictAnswer e) v)
-
--- it was refused
-pub answered-before :
-    (r : StateAnswer) (answer : Answer State) (before : State) {k : Refusal}
-    → Answered r answer before
-    → r .verdict ≡ Refused k
-    → (answer ≡ refused (number k)) × (r .state ≡ before)
-unfolding verdict stateAfter
-answered-before r answer before {k} h e = go answer (h .verdict) (h .state)
-  where
-    go :
-        (answer : Answer State)
-        → verdictAnswer (r .verdict) ≡ verdict answer
-        → r .state ≡ stateAfter answer before
-        → (answer ≡ refused (number k)) × (r .state ≡ before)
-    go (accepted next) v s = absurd (not-both v (ap verdictAnswer e))
-    go (refused n) v s = (same-number n (sym v ∙ ap verdictAnswer e), s)
-      where
-        same-number :
-            (n : ℕ)
-            → _≡_ {A = Answer Unit} (refused n) (refused (number k))
-            → _≡_ {A = Answer State} (refused n) (refused (number k))
-        same-number n e = ap refused cc

@@ -33,10 +33,6 @@ module _ (table : Table) (b : TableBounds (valuesOf table)) where
   unfolding valuesOf
   few-elements = b .elementsMost
 
-  pub step-least : 1 ≤ table .step
-  unfolding valuesOf
-  step-least = b .stepLeast
-
   bounds-used : (i : ℕ) → i < table .elements → ElementBounds (table .step) (table .elements) i (valuesOf table .element i)
   unfolding valuesOf
   bounds-used i l = b .element i l

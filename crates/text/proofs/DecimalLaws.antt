@@ -106,17 +106,6 @@ decimal-four n h small =
     )
     (simp append-assoc)
 
--- a number of more than eight digits
-pub decimal-eight : (n : ℕ) → 100000000 ≤ n → n < 1000000000000
-    → (decimal (n / 100000000) ++ lastDigits 4 (n % 100000000 / 10000)) ++ lastDigits 4 (n % 100000000 % 10000) ≡ decimal n
-decimal-eight n h small =
-    let a : n / 100000000 ≡ n / 10000 / 10000 = omega arith in
-    let b : n % 100000000 / 10000 ≡ n / 10000 % 10000 = omega arith in
-    let c : n % 100000000 % 10000 ≡ n % 10000 = omega arith in
-    rw (a, b, c)
-    (ap (λ ds. ds ++ lastDigits 4 (n % 10000)) (decimal-four (n / 10000) (omega arith) (omega arith))
-    ∙ decimal-four n (omega arith) small)
-
 -- a word without its lowest byte
 low : (a b word : ℕ) → a < 256 → word ≡ a + 256 * b → (word % 256 ≡ a) × (word / 256 ≡ b)
 low a b word h e = (

@@ -7,7 +7,7 @@ ghost use Rattle.text.specs.Pairs.{pairsBelow};
 ghost use Rattle.text.specs.Places.{Put};
 
 // The digits of x, put at a place one by one; the place after them.
-pub fn put_digits(out: &mut [u8], at: usize, x: u64) -> usize
+fn put_digits(out: &mut [u8], at: usize, x: u64) -> usize
     requires { ⌜ at + length (decimal x) ≤ length (now out) ⌝ }
     ensures { λ r. ⌜ Put (now (out .entry)) at (decimal x) (now (out .exit)) r ⌝ }
 {

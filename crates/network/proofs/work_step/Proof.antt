@@ -1,6 +1,6 @@
 -- `work_step` meets its contract.
 use Prim.Native.Nat.{_≤_, _<_, _-_}
-use mathlib.Core.Path.{_≡_, ap}
+use mathlib.Core.Path.{_≡_, refl, ap}
 use borrow.Author.Needs.{needs}
 use native.Mathlib.Omega.{arith}
 use lib.ListN.{length, getD}
@@ -64,18 +64,18 @@ mul-told c = omega (arith, within (c .before .before))
 array-copy-out-told : tie.Need-array-copy-out-told Inv-loop μ-loop
 array-copy-out-told c = within (c .before .before)
 
-mean-rain-inflow-requires : tie.Need-mean-rain-inflow-requires Inv-loop μ-loop
-mean-rain-inflow-requires c κs =
+mul-step-course : tie.Need-mul-step-course Inv-loop μ-loop
+mul-step-course c = omega (arith, within (c .before .before .before))
+
+array-read-step-course : tie.Need-array-read-step-course Inv-loop μ-loop
+array-read-step-course c = within (c .before .before .before)
+
+step-course-requires : tie.Need-step-course-requires Inv-loop μ-loop
+step-course-requires c κs =
     let l = c .before .before .before in
     let p = start l .pre in
     let e = element-bounds _ (p .0 .table) _ (l .loop-test .taken) in
-    (rain-in-range _ _ (p .1 .0) _ (l .loop-test .taken), (omega arith, (e .area, e .runoff)))
-
-mul-t23 : tie.Need-mul-t23 Inv-loop μ-loop
-mul-t23 c = omega (arith, within (c .before .before .before .before))
-
-array-read-t35 : tie.Need-array-read-t35 Inv-loop μ-loop
-array-read-t35 c = within (c .before .before .before .before)
+    (rain-in-range _ _ (p .1 .0) _ (l .loop-test .taken), (e .area, e .runoff))
 
 work-element-requires : tie.Need-work-element-requires Inv-loop μ-loop
 work-element-requires c κs =
@@ -83,7 +83,8 @@ work-element-requires c κs =
     let p = start l .pre in
     let inv = l .before .loop .inv .1 in
     let taken = l .loop-test .taken in
-    record {
+    rw (c .before .before .step-course .ensures)
+    (record {
       inRange = record {
         element = element-in-range _ (p .0 .table) _ taken;
         weight = weight-in-range _ _ (p .0 .weights) _ taken;
@@ -96,7 +97,7 @@ work-element-requires c κs =
       above = omega (arith, within l, inv .1 .0);
       below = omega (arith, down-within l, inv .1 .0);
       small = record { at = λ k m n. below-most _ _ _ (inv .1 .1 .walked .small k m n) (omega (arith, within l)) };
-    }
+    })
 
 enum-told : tie.Need-enum-told Inv-loop μ-loop
 enum-told c = search needs
@@ -105,7 +106,10 @@ enum-told-2 : tie.Need-enum-told-2 Inv-loop μ-loop
 enum-told-2 c = search needs
 
 same-length : tie.Need-same-length Inv-loop μ-loop
-same-length c = search needs
+same-length c =
+    let e = c .before .before .before .before .before .before in
+    let l = turn e in
+    omega (arith, e .work-element .kept .1 .1 .1 .1 .0, l .before .loop .inv .1 .0, start l .pre .1 .1 .1 .1 .0)
 
 same-length-2 : tie.Need-same-length-2 Inv-loop μ-loop
 same-length-2 c =
@@ -118,7 +122,7 @@ returns c =
     let e = c .before .before .before .before .before .before in
     let l = turn e in
     answered-refused _ _ _
-    (stepping-refused _ _ _ _ (l .loop-test .taken) _ _ (start l .pre .0 .weights) (e .before .before .before .mean-rain-inflow .ensures) _ _ _ (l .before .loop .inv .1 .1 .1) _ (e .work-element .ensures .verdict) (c .enum-told2 .given .1))
+    (stepping-refused _ _ _ _ (l .loop-test .taken) _ _ (start l .pre .0 .weights) refl _ (e .before .before .before .step-course .ensures) _ _ _ (l .before .loop .inv .1 .1 .1) _ (e .work-element .ensures .verdict) (c .enum-told2 .given .1))
 
 mul-figures-at : tie.Need-mul-figures-at Inv-loop μ-loop
 mul-figures-at c = omega (arith, within (turn (worked (c .before))))
@@ -135,8 +139,8 @@ figures-at-requires c κs =
 rains-after-requires : tie.Need-rains-after-requires Inv-loop μ-loop
 rains-after-requires c κs = search needs
 
-mul-t46 : tie.Need-mul-t46 Inv-loop μ-loop
-mul-t46 c = omega (arith, within (turn (worked (c .before .before .before))))
+mul-t44 : tie.Need-mul-t44 Inv-loop μ-loop
+mul-t44 c = omega (arith, within (turn (worked (c .before .before .before))))
 
 element-set-from-next : tie.Need-element-set-from-next Inv-loop μ-loop
 element-set-from-next c = within (turn (worked (c .before .before .before)))
@@ -160,7 +164,7 @@ loop-again c =
         omega (arith, kept .0, inv .0),
         (
           omega (arith, kept .1 .0, inv .1 .0),
-          stepping-again _ _ _ _ (l .loop-test .taken) _ _ (start l .pre .0 .weights) (e .before .before .before .mean-rain-inflow .ensures) _ _ _ (inv .1 .1) _ _ _ _ (e .work-element .ensures .led (k .enum-told .given .1)) (f .figures-at .ensures) (c .rains-after .ensures),
+          stepping-again _ _ _ _ (l .loop-test .taken) _ _ (start l .pre .0 .weights) refl _ (e .before .before .before .step-course .ensures) _ _ _ (inv .1 .1) _ _ _ _ (e .work-element .ensures .led (k .enum-told .given .1)) (f .figures-at .ensures) (c .rains-after .ensures),
         ),
       ),
     )
@@ -194,9 +198,9 @@ work-step-spec =
     element-copy-out-place
     mul-told
     array-copy-out-told
-    mean-rain-inflow-requires
-    mul-t23
-    array-read-t35
+    mul-step-course
+    array-read-step-course
+    step-course-requires
     work-element-requires
     enum-told
     enum-told-2
@@ -207,7 +211,7 @@ work-step-spec =
     add-figures-at
     figures-at-requires
     rains-after-requires
-    mul-t46
+    mul-t44
     element-set-from-next
     add-i
     loop-less
