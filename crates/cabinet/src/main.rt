@@ -3,7 +3,7 @@ ghost use mathlib.Core.Path.{_≡_};
 ghost use mathlib.Core.Bool.{true};
 ghost use Prim.Native.Nat.{_≤_};
 ghost use lib.ListN.{length};
-ghost use Rattle.table.specs.InUse.{valuesOf};
+ghost use Rattle.table.specs.InUse.{tableIn};
 ghost use Rattle.plan.specs.Plans.{PlanFits};
 ghost use Rattle.state.specs.Rules.{stateFits};
 ghost use Rattle.session.specs.Windows.{SessionFits};
@@ -22,24 +22,36 @@ use session::write_out;
 use state::State;
 use table::Verdict;
 
+// What the program holds before the first record.
+fn first_session() -> Session
+    ensures { λ r. ⌜ SessionFits r 0 ⌝ }
+{
+    Session {
+        window: Window {
+            from: 0,
+            have: 0,
+            more: true,
+        },
+        at: 0,
+        ended: false,
+    }
+}
+
 // Answers the records, one after the other, up to a hundred thousand, from a state that rule 8 accepts: every record leaves one.
 fn serve(
+    table: &[u8],
     plan: Plan,
     state: State,
-    session: Session,
     input: &mut [u8],
     numbers: &mut [u64],
     out: &mut [u8],
 )
-    requires { ⌜ PlanFits plan × (SessionFits session (length (now input)) × ((length (now numbers) ≡ 3328) × ((length (now out) ≡ 262144) × (stateFits (valuesOf (plan .table)) state ≡ true)))) ⌝ }
+    requires { ⌜ PlanFits (now table) plan × ((length (now numbers) ≡ 3328) × ((length (now out) ≡ 262144) × (stateFits (tableIn (now table)) state ≡ true))) ⌝ }
 {
     let mut state = state;
-    let mut session = session;
+    let mut session = first_session();
     let mut count: u64 = 0;
     while count < 100_000 {
-        if session.ended {
-            break;
-        }
         session = ready(session, &mut *input, &*out);
         if session.ended {
             break;
@@ -49,6 +61,7 @@ fn serve(
         let have = window.have;
         let length = record_length(&input[from..have]);
         let answer = answer_next(
+            table,
             plan,
             &input[from..have],
             state,
@@ -71,12 +84,12 @@ fn refuse(refusal: Refusal) {
 }
 
 // Reads the table by its length field, or its four bytes alone where the table is too long; how many bytes there are.
-fn read_table(input: &mut [u8]) -> usize
-    requires { ⌜ length (now input) ≡ 131072 ⌝ }
+fn read_table(table: &mut [u8]) -> usize
+    requires { ⌜ length (now table) ≡ 2410 ⌝ }
     ensures { λ r. ⌜ r ≤ 2410 ⌝ }
 {
-    let first = io::read_full(0, &mut input[0..4]);
-    let counted = read32(&*input, 0);
+    let first = io::read_full(0, &mut table[0..4]);
+    let counted = read32(&*table, 0);
     if first < 4 {
         return first;
     }
@@ -84,23 +97,14 @@ fn read_table(input: &mut [u8]) -> usize
         return 4;
     }
     let size = counted as usize + 4;
-    4 + io::read_full(0, &mut input[4..size])
+    4 + io::read_full(0, &mut table[4..size])
 }
 
-// What the program holds after an accepted table.
-fn first_session(length: usize, have: usize) -> Session
-    requires { ⌜ (length ≤ have) × (have ≤ 131072) ⌝ }
-    ensures { λ r. ⌜ SessionFits r 131072 ⌝ }
+// The longest table.
+fn table_buffer() -> [u8; 2410]
+    ensures { λ r. ⌜ 2410 ≡ length r ⌝ }
 {
-    Session {
-        window: Window {
-            from: length,
-            have,
-            more: true,
-        },
-        at: 0,
-        ended: false,
-    }
+    [0; 2410]
 }
 
 // Room for two of the longest records.
@@ -124,26 +128,34 @@ fn text_buffer() -> [u8; 262144]
     [0; 262144]
 }
 
-fn main() {
-    let mut input = input_buffer();
-    let mut numbers = number_buffer();
-    let mut out = text_buffer();
-    let have = read_table(&mut input);
-    let opening = open(&input[..have]);
+// The run after the table's bytes are read.
+fn run(table: &[u8], input: &mut [u8], numbers: &mut [u64], out: &mut [u8])
+    requires { ⌜ (length (now numbers) ≡ 3328) × (length (now out) ≡ 262144) ⌝ }
+{
+    let opening = open(table);
     let verdict = opening.verdict;
     match verdict {
         Verdict::Accepted => {
             let plan = opening.plan;
-            let session = first_session(opening.length, have);
+            let length = opening.length;
             serve(
+                &table[..length],
                 plan,
                 opening.state,
-                session,
-                &mut input,
-                &mut numbers,
-                &mut out,
+                &mut *input,
+                &mut *numbers,
+                &mut *out,
             );
         }
         Verdict::Refused(refusal) => refuse(refusal),
     }
+}
+
+fn main() {
+    let mut table = table_buffer();
+    let mut input = input_buffer();
+    let mut numbers = number_buffer();
+    let mut out = text_buffer();
+    let have = read_table(&mut table);
+    run(&table[..have], &mut input, &mut numbers, &mut out);
 }

@@ -5,12 +5,9 @@ use mathlib.Core.List.{List}
 use mathlib.Core.Path.{_≡_, refl, sym, ap, _∙_}
 use Rattle.refusal.specs.Answers.{Answer, accepted, refused}
 use Rattle.method.specs.declared.Figures.{Figures}
-use Rattle.table.specs.declared.Table.{Table}
-use Rattle.table.specs.Tables.{TableValues}
 use Rattle.table.specs.Verdicts.{verdictAnswer}
 use Rattle.table.specs.Rules.{tableRules}
-use Rattle.table.specs.InUse.{valuesOf, tableIn}
-use Rattle.table.proofs.HeldLaws.{TableKnown}
+use Rattle.table.specs.InUse.{tableIn}
 use Rattle.table.proofs.TableLaws as table-laws
 use Rattle.state.specs.declared.State.{State}
 use Rattle.state.specs.declared.StateAnswer.{StateAnswer}
@@ -48,29 +45,14 @@ pub forecast-replied :
     → ForecastReplied r after answer before
 forecast-replied a answer before after r h e = record { reply = e ∙ ap countReply (h .count); numbers = h .numbers }
 
--- the counts of an accepted table
-pub record CountsKnown (table : Table) (t : TableValues) : Type 0 where
-  pub elements : table .elements ≡ t .elements
-  pub leads : table .leads ≡ t .leads
-  pub gauges : table .gauges ≡ t .gauges
-
-pub counts-known : (table : Table) (t : TableValues) → valuesOf table ≡ t → CountsKnown table t
-unfolding valuesOf
-counts-known table t e =
-    record {
-      elements = ap (λ (x : TableValues). x .elements) e;
-      leads = ap (λ (x : TableValues). x .leads) e;
-      gauges = ap (λ (x : TableValues). x .gauges) e;
-    }
-
+-- what an accepted table asks for, and a refused one
 pub plan-replied :
-    (bytes : List ℕ) (table : Table) (r : PlanReply)
-    → TableKnown bytes table
+    (bytes : List ℕ) (r : PlanReply)
+    → tableRules {A = Unit} bytes (accepted tt) ≡ accepted tt
     → r ≡ planOf (tableIn bytes)
     → r ≡ planReply (tableRules bytes (accepted (tableIn bytes)))
 unfolding planReply
-plan-replied bytes table r k e =
-    e ∙ ap planReply (sym (table-laws.rules-accepted bytes (accepted (tableIn bytes)) (k .kept)))
+plan-replied bytes r k e = e ∙ ap planReply (sym (table-laws.rules-accepted bytes (accepted (tableIn bytes)) k))
 
 pub plan-refused :
     (bytes : List ℕ) (k n : ℕ) (r : PlanReply)

@@ -5,7 +5,7 @@ ghost use lib.ListN.{length};
 ghost use Rattle.engine.specs.Entries.{startAnswer, stepAnswer, forecastAnswer};
 ghost use Rattle.leads.specs.Lent.{countAnswer};
 ghost use Rattle.table.specs.Verdicts.{verdictAnswer};
-ghost use Rattle.table.specs.Bounds.{TableBounds};
+ghost use Rattle.table.specs.Bounds.{AcceptedTable};
 ghost use Rattle.table.specs.Rules.{tableRules};
 ghost use Rattle.table.specs.InUse.{tableIn};
 ghost use Rattle.refusal.specs.Answers.{accepted};
@@ -78,7 +78,7 @@ fn forecast_reply(answer: ForecastAnswer) -> ForecastReply
 
 // What the bytes of an accepted table ask for, with its N, L and M.
 fn plan_of(table: &[u8], elements: usize, leads: usize, gauges: usize) -> PlanReply
-    requires { ⌜ TableBounds (tableIn (now table)) × ((elements ≡ tableIn (now table) .elements) × ((leads ≡ tableIn (now table) .leads) × (gauges ≡ tableIn (now table) .gauges))) ⌝ }
+    requires { ⌜ AcceptedTable (now table) × ((elements ≡ tableIn (now table) .elements) × ((leads ≡ tableIn (now table) .leads) × (gauges ≡ tableIn (now table) .gauges))) ⌝ }
     ensures { λ r. ⌜ r ≡ planOf (tableIn (now (table .entry))) ⌝ }
 {
     let basins = count_basins(table, elements);
@@ -116,8 +116,8 @@ pub extern "C" fn river_prepare(table: &[u8]) -> PlanReply
     let verdict = read.verdict;
     match verdict {
         Verdict::Accepted => {
-            let held = read.table;
-            plan_of(table, held.elements, held.leads, held.gauges)
+            let counts = read.counts;
+            plan_of(table, counts.elements, counts.leads, counts.gauges)
         }
         Verdict::Refused(refusal) => no_plan(refusal.code()),
     }

@@ -18,11 +18,11 @@ use Rattle.state.specs.declared.State.{State}
 use Rattle.state.specs.Rules.{stateFits, stepsLeft}
 use Rattle.state.specs.Start.{started}
 use Rattle.network.specs.Step.{stepped, stepNumbers}
-use Rattle.network.specs.Forecast.{leadNumbers}
-use Rattle.leads.specs.Answer.{forecastFigures, spaceFits, leadsAnswer}
-use Rattle.engine.specs.Entries.{startAnswer, inputsIn, stepOnAnswer, stepAnswer, forecastOnAnswer, forecastAnswer}
+use Rattle.leads.specs.Answer.{forecastFigures}
+use Rattle.engine.specs.Entries.{startAnswer, inputsIn, stepOnAnswer, stepAnswer, forecastAnswer}
 use Rattle.lead_walk.proofs.UnderLaws.{Under}
 use Rattle.engine.proofs.NextLaws.{rules-kept, under-kept}
+use Rattle.engine.proofs.ForecastLaws.{Forecasting, forecasting-on}
 
 -- rules before an accepted answer are kept
 pub table-kept :
@@ -69,20 +69,10 @@ stepping table bytes s next h =
     let e = under-kept (stepNumbers t (inputsIn t bytes) s) (stepped t (inputsIn t bytes) s) (d .1) in
     (record { fits = b .0; kept = d .0; under = e .1 }, e .0)
 
--- what the rules give of an accepted forecast, and its answer
-pub record Forecasting (t : TableValues) (s : State) : Type 0 where
-  pub fits : stateFits t s ≡ true
-  pub under : Under (leadNumbers t s (t .leads))
-
+-- an accepted forecast
 pub forecasting :
     (table : List ℕ) (s : State) (room : ℕ) (figures : List Figures)
     → forecastAnswer table s room ≡ accepted figures
     → Forecasting (tableIn table) s × (figures ≡ forecastFigures (tableIn table) s)
-unfolding forecastAnswer forecastOnAnswer leadsAnswer
-forecasting table s room figures h =
-    let t : TableValues = tableIn table in
-    let a = table-kept table _ h in
-    let b = rule-kept 8 (stateFits t s) _ (a .1) in
-    let c = rule-kept 15 (spaceFits t room) _ (b .1) in
-    let d = under-kept (leadNumbers t s (t .leads)) (forecastFigures t s) (c .1) in
-    (record { fits = b .0; under = d .1 }, d .0)
+unfolding forecastAnswer
+forecasting table s room figures h = forecasting-on (tableIn table) s room figures (table-kept table _ h .1)

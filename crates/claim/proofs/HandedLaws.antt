@@ -3,7 +3,6 @@ use Prim.Native.Nat.{ℕ, zero, suc, _+_, _≤_, _<_}
 use mathlib.Core.Bool.{Bool}
 use mathlib.Core.Path.{_≡_, refl, ap}
 use native.Mathlib.Omega.{arith}
-use Rattle.units.specs.Units.{C}
 use Rattle.method.specs.declared.Figures.{Figures}
 use Rattle.method.specs.Inflow.{forecastInflow}
 use Rattle.exact.specs.Exact.{ExactFigures}
@@ -24,10 +23,10 @@ use Rattle.claim.specs.CabinetRun.{stateHanded}
 use Rattle.claim.specs.FractionRun.{exactStateHanded, exactForecastHanded}
 use Rattle.claim.specs.Claim.{Pairwise, All, WithinMargins, UnderLimit}
 use Rattle.claim.proofs.ListLaws.{near-listed, near-by-lead, every-listed, every-by-lead}
-use Rattle.engine.proofs.NextLaws.{new-fit}
-use Rattle.claim.proofs.CeilingLaws.{inflow-under, lead-under}
-use Rattle.claim.proofs.AcceptedLaws.{Forecasting}
-use Rattle.claim.proofs.TogetherLaws.{Limited, Together, state-under}
+use Rattle.leads.proofs.LeadsLaws.{lead-part}
+use Rattle.engine.proofs.ForecastLaws.{Forecasting, lead-fits}
+use Rattle.claim.proofs.CeilingLaws.{inflow-under}
+use Rattle.claim.proofs.TogetherLaws.{Limited, Together}
 
 -- figures that follow are within their margins, at equal step counts
 within-margins :
@@ -57,14 +56,6 @@ module _ (t : TableValues) (s : State) (x : ExactState) (heard : ℕ → Bool) (
 
   -- the leads of an accepted forecast
   module _ (b : TableBounds t) (call : Forecasting t s) where
-    -- no lead's discharge passes C
-    lead-fits : (lead : ℕ) → lead ≤ t .leads → (i : ℕ) → i < t .elements → leadFigures t s lead i .discharge .0 ≤ C
-    unfolding leadFigures noObservation
-    lead-fits zero m i l = state-under t s (call .fits) i l
-    lead-fits (suc lead) m i l =
-        new-fit t (forecastOwn t s (suc lead)) noObservation (leadFigures t s lead) (t .elements) i l
-        (lead-under t s (t .leads) lead m (call .under)) .discharge
-
     -- a basin's inflow has margin 1
     own-margin : (lead i : ℕ) → forecastOwn t s lead i .«discharge_margin» .0 ≤ 1
     unfolding forecastOwn forecastInflow
@@ -84,8 +75,8 @@ module _ (t : TableValues) (s : State) (x : ExactState) (heard : ℕ → Bool) (
           arith,
           limit-step t (forecastOwn t s (suc lead)) noObservation (leadFigures t s lead) heard heard (s .steps + lead) b
               (omega (arith, steps-most t s (call .fits), b .leadsMost))
-              (lead-fits lead (omega arith))
-              (inflow-under t (forecastOwn t s (suc lead)) noObservation (leadFigures t s lead) (lead-under t s (t .leads) lead m (call .under)))
+              (λ k n. lead-fits t s call lead (omega arith) k n .discharge)
+              (inflow-under t (forecastOwn t s (suc lead)) noObservation (leadFigures t s lead) (lead-part t s lead (t .leads) m (call .under)))
               (λ k n. own-margin (suc lead) k)
               (λ k h. h)
               (λ k n h. silent k)

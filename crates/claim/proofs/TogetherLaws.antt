@@ -46,7 +46,7 @@ pub record Together (t : TableValues) (s : State) (x : ExactState) (heard : ℕ 
   pub limit : (i : ℕ) → i < t .elements → Limited t heard (s .steps) i (figuresIn s i)
 
 -- what rule 8 gives
-pub state-under : (t : TableValues) (s : State) → stateFits t s ≡ true → (i : ℕ) → i < t .elements → figuresIn s i .discharge .0 ≤ C
+state-under : (t : TableValues) (s : State) → stateFits t s ≡ true → (i : ℕ) → i < t .elements → figuresIn s i .discharge .0 ≤ C
 unfolding figuresIn
 state-under t s h i l = places-under t s h .at i l .discharge
 

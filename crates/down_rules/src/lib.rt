@@ -1,6 +1,7 @@
 // Rule 6: where the elements drain to.
 ghost use mathlib.Core.Path.{_≡_};
-ghost use Prim.Native.Nat.{_≤_};
+ghost use Prim.Native.Nat.{_+_, _*_, _≤_, _<_};
+ghost use lib.ListN.{length};
 ghost use Rattle.fields.specs.Ranges.{allBelow};
 ghost use Rattle.elements.specs.Elements.{elementAt};
 ghost use Rattle.elements.specs.Rules.{downFits};
@@ -9,7 +10,7 @@ use elements::kind_at;
 
 // Rule 6 on element i of n, counted from 0.
 fn down_fits(table: &[u8], n: usize, i: usize) -> bool
-    requires { ⌜ (n ≤ 64) × (i ≤ 64) ⌝ }
+    requires { ⌜ (n ≤ 64) × ((i < n) × (26 * n + 10 ≤ length (now table))) ⌝ }
     ensures { λ r. ⌜ r ≡ downFits n (elementAt (now (table .entry))) i ⌝ }
 {
     let down = down_at(table, i);
@@ -28,7 +29,7 @@ fn down_fits(table: &[u8], n: usize, i: usize) -> bool
 
 // Rule 6: the downs of all elements.
 pub fn downs_fit(table: &[u8], n: usize) -> bool
-    requires { ⌜ n ≤ 64 ⌝ }
+    requires { ⌜ (n ≤ 64) × (26 * n + 10 ≤ length (now table)) ⌝ }
     ensures { λ r. ⌜ r ≡ allBelow (downFits n (elementAt (now (table .entry)))) n ⌝ }
 {
     let mut fit = true;

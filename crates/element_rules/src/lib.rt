@@ -1,21 +1,15 @@
 // Rule 5: the fields of the elements.
 ghost use mathlib.Core.Path.{_≡_};
-ghost use Prim.Native.Nat.{_≤_};
+ghost use Prim.Native.Nat.{_+_, _*_, _≤_};
+ghost use lib.ListN.{length};
 ghost use Rattle.fields.specs.Ranges.{allBelow};
 ghost use Rattle.elements.specs.Elements.{elementAt};
-ghost use Rattle.elements.specs.Decoded.{HoldsElements};
 ghost use Rattle.elements.specs.Rules.{basinFits, reachFits, kindFits, elementFits};
 use elements::Element;
 use elements::element_at;
 use fields::range::in_range;
 use units::Discharge;
 use units::Variance;
-
-// The elements that bytes hold, and whether rule 5 is kept. (The array first: a flag before it costs copies.)
-pub struct ElementsRead {
-    pub element: [Element; 64],
-    pub fit: bool,
-}
 
 fn basin_fits(e: Element) -> bool
     ensures { λ r. ⌜ r ≡ basinFits e ⌝ }
@@ -57,17 +51,14 @@ fn element_fits(step: u64, e: Element) -> bool
         & in_range(w.0, 0, 100_000_000)
 }
 
-// The first n elements, and whether all of them keep rule 5.
-pub fn read_elements(table: &[u8], step: u64, n: usize) -> ElementsRead
-    requires { ⌜ n ≤ 64 ⌝ }
-    ensures { λ r. ⌜ HoldsElements (r .element) (elementAt (now (table .entry))) n × (r .fit ≡ allBelow (λ i. elementFits step (elementAt (now (table .entry)) i)) n) ⌝ }
+// Whether the first n elements keep rule 5.
+pub fn elements_fit(table: &[u8], step: u64, n: usize) -> bool
+    requires { ⌜ (n ≤ 64) × (26 * n + 10 ≤ length (now table)) ⌝ }
+    ensures { λ r. ⌜ r ≡ allBelow (λ i. elementFits step (elementAt (now (table .entry)) i)) n ⌝ }
 {
-    let mut element = elements::unused();
     let mut fit = true;
     for i in 0..n {
-        let e = element_at(table, i);
-        element[i] = e;
-        fit = fit & element_fits(step, e);
+        fit = fit & element_fits(step, element_at(table, i));
     }
-    ElementsRead { element, fit }
+    fit
 }

@@ -1,11 +1,9 @@
 -- Laws of the elements: what rules 5 and 6 let callers rely on.
-use Prim.Native.Nat.{ℕ, _+_, _-_, _*_, _≤_, _<_}
+use Prim.Native.Nat.{ℕ, _+_, _-_, _≤_, _<_}
 use mathlib.Core.Bool.{true, false, not, cond, _&&_, true≢false}
 use mathlib.Core.Logic.{_⊎_, inl, inr, ⊎-elim}
 use mathlib.Core.Path.{_≡_, sym}
 use borrow.Author.Tests.{ltb-true, leb-true, eqb-true}
-use mir.Syntax.{w64}
-use mir.Val.{Fits}
 use native.Mathlib.Omega.{arith}
 use lib.Dec.{ltb, leb, eqb}
 use Rattle.units.specs.Units.{C}
@@ -14,17 +12,6 @@ use Rattle.fields.proofs.RangeLaws.{all-three, all-five, either, cond-cases, ra
 use Rattle.elements.specs.declared.Element.{Element}
 use Rattle.elements.specs.Rules.{basinFits, reachFits, kindFits, elementFits, downFits}
 use Rattle.elements.specs.Bounds.{ElementBounds}
-
--- the place of a field of element i, within what a number and the readers hold
-module _ (i k : ℕ) (inside : leb k 26 ≡ true) (l : i ≤ 255) where
-  pub place-32 : 26 * i + 10 + k ≤ 999000
-  place-32 = omega (arith, leb-true k 26 inside)
-
-  pub place-16 : 26 * i + 10 + k ≤ 1000000
-  place-16 = omega (arith, place-32)
-
-  pub place-fits : Fits w64 (26 * i + 10 + k)
-  place-fits = omega (arith, place-32)
 
 -- what rule 5 asks of either kind
 record KindBounds (e : Element) : Type 0 where

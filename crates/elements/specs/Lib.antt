@@ -1,4 +1,3 @@
 pub mod Elements
 pub mod Rules
-pub mod Decoded
 pub mod Bounds

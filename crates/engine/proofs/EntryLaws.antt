@@ -15,22 +15,19 @@ use Rattle.units.specs.Units.{C}
 use Rattle.units.specs.Ceiling.{underCeiling}
 use Rattle.method.specs.declared.Figures.{Figures}
 use Rattle.method.specs.Figures.{FiguresFit}
-use Rattle.table.specs.declared.Table.{Table}
 use Rattle.table.specs.declared.Verdict.{Verdict}
 use Rattle.table.specs.declared.Verdict.the-variants.{Accepted, Refused}
 use Rattle.table.specs.Verdicts.{verdictAnswer}
 use Rattle.table.specs.Tables.{TableValues}
 use Rattle.table.specs.Rules.{tableRules}
-use Rattle.table.specs.InUse.{valuesOf, tableIn}
-use Rattle.table.proofs.HeldLaws.{TableKnown}
+use Rattle.table.specs.InUse.{tableIn}
 use Rattle.fields.proofs.RangeLaws.{both, all-three, all-four, all-at}
-use Rattle.table.proofs.InUseLaws.{below-used, below-same}
+use Rattle.table.proofs.InUseLaws.{below-same}
 use Rattle.table.proofs.TableLaws as table-laws
 use Rattle.record.specs.declared.Input.{Input}
-use Rattle.record.specs.declared.InputsAnswer.{InputsAnswer}
 use Rattle.record.specs.Records.{inputAt}
 use Rattle.record.specs.Rules.{recordRules}
-use Rattle.record.specs.Decoded.{noInput, InputFits, RecordRead}
+use Rattle.record.specs.Decoded.{noInput, inputIn, RecordRead}
 use Rattle.record.proofs.RecordLaws as record-laws
 use Rattle.state.specs.declared.State.{State}
 use Rattle.state.specs.declared.StateAnswer.{StateAnswer}
@@ -50,15 +47,14 @@ use Rattle.state.proofs.AnswerLaws.{answered-refused, answered-accepted}
 -- ---- the start
 
 pub start-accepted :
-    (bytes : List ℕ) (table : Table) (s next : State) (v : Verdict)
-    → TableKnown bytes table
+    (bytes : List ℕ) (s next : State) (v : Verdict)
+    → tableRules {A = Unit} bytes (accepted tt) ≡ accepted tt
     → v ≡ Accepted
-    → next ≡ started (valuesOf table) s
+    → next ≡ started (tableIn bytes) s
     → Answered (record { verdict = v; state = next }) (startAnswer bytes s) s
 unfolding startAnswer
-start-accepted bytes table s next v k e h =
-    rw e
-    (answered-accepted _ s next (table-laws.rules-accepted bytes _ (k .kept) ∙ ap accepted (rw (← k .values) (sym h))))
+start-accepted bytes s next v k e h =
+    rw e (answered-accepted _ s next (table-laws.rules-accepted bytes _ k ∙ ap accepted (sym h)))
 
 -- an answer that the table's rules refuse
 pub refused-by-table :
@@ -92,34 +88,34 @@ module _ (t : TableValues) (bytes : List ℕ) (s : State) where
       record-accepted r = rw (h, l) (record-laws.rules-accepted t bytes _ r)
 
 -- what an accepted record gives
-module _ (table : Table) (bytes : List ℕ) (r : InputsAnswer) (h : RecordRead (valuesOf table) bytes r) (e : r .verdict ≡ Accepted) where
-  pub record-kept : recordRules {A = Unit} (valuesOf table) bytes (accepted tt) ≡ accepted tt
-  record-kept = sym (h .verdict) ∙ ap verdictAnswer e
+module _
+    (t : TableValues) (bytes : List ℕ) {v : Verdict} {numbers : List ℕ} (h : RecordRead t bytes v numbers)
+    (e : v ≡ Accepted) where
+  pub record-kept : recordRules {A = Unit} t bytes (accepted tt) ≡ accepted tt
+  record-kept = sym (h .decided) ∙ ap verdictAnswer e
 
-  input-is : (i : ℕ) → i < table .elements → getD (r .input) i noInput ≡ inputAt (valuesOf table) bytes i
-  unfolding inputAt valuesOf
+  input-is : (i : ℕ) → i < t .elements → inputIn numbers i ≡ inputAt t bytes i
+  unfolding inputAt
   input-is i l = h .inputs record-kept .at i l
 
-  pub inputs-are : inputsOf (table .elements) (r .input) ≡ inputsIn (valuesOf table) bytes
-  unfolding inputsOf inputsIn valuesOf
-  inputs-are = below-same (table .elements) noInput _ _ input-is
+  pub inputs-are : inputsOf (t .elements) numbers ≡ inputsIn t bytes
+  unfolding inputsOf inputsIn
+  inputs-are = below-same (t .elements) noInput _ _ input-is
 
-  told-fits : (i : ℕ) → i < table .elements → InputFits (inputsOf (table .elements) (r .input) i)
-  unfolding inputsOf valuesOf
-  told-fits i l =
-      rw (below-used (table .elements) noInput (λ k. getD (r .input) k noInput) i l, input-is i l) (h .fits record-kept i l)
-
-  pub inputs-fit : InputsFit (r .input) (table .elements)
+  pub inputs-fit : InputsFit numbers (t .elements)
   inputs-fit =
-      record { rain = λ i l. omega (arith, told-fits i l .rain); observation = λ i l. told-fits i l .observation }
+      record {
+        rain = λ i l. rw (input-is i l) (h .fits record-kept i l .rain);
+        observation = λ i l. rw (input-is i l) (h .fits record-kept i l .observation);
+      }
 
 pub record-verdict :
-    (table : Table) (bytes : List ℕ) (r : InputsAnswer)
-    → RecordRead (valuesOf table) bytes r
+    (t : TableValues) (bytes : List ℕ) {v : Verdict} {numbers : List ℕ}
+    → RecordRead t bytes v numbers
     → {k : Refusal}
-    → r .verdict ≡ Refused k
-    → recordRules {A = Unit} (valuesOf table) bytes (accepted tt) ≡ refused (number k)
-record-verdict table bytes r h e = sym (h .verdict) ∙ ap verdictAnswer e
+    → v ≡ Refused k
+    → recordRules {A = Unit} t bytes (accepted tt) ≡ refused (number k)
+record-verdict t bytes h e = sym (h .decided) ∙ ap verdictAnswer e
 
 -- an answer known by another name
 pub answered-as :
@@ -134,7 +130,7 @@ pub refused-as :
     → Answered (record { verdict = v; state = s }) answer s
 refused-as v k answer s e h = rw e (answered-refused k answer s h)
 
--- an answer on equal inputs, and on equal tables
+-- an answer on equal inputs
 pub answered-inputs :
     {r : StateAnswer} (t : TableValues) (told told′ : ℕ → Input) (s : State)
     → told ≡ told′
@@ -142,13 +138,6 @@ pub answered-inputs :
     → Answered r (underCeiling (stepNumbers t told′ s) (stepped t told′ s)) s
 answered-inputs {r} t told told′ s e h =
     subst (λ (x : ℕ → Input). Answered r (underCeiling (stepNumbers t x s) (stepped t x s)) s) e h
-
-pub answered-table :
-    {r : StateAnswer} (t t′ : TableValues) (bytes : List ℕ) (s : State)
-    → t ≡ t′
-    → Answered r (stepOnAnswer t bytes s) s
-    → Answered r (stepOnAnswer t′ bytes s) s
-answered-table {r} t t′ bytes s e h = subst (λ (x : TableValues). Answered r (stepOnAnswer x bytes s) s) e h
 
 -- ---- the forecast
 
@@ -175,14 +164,12 @@ lent-as {r} {after} {before} {a} {b} e h = subst (λ (x : Answer (List Figures))
 
 -- the forecast on the bytes of an accepted table, and of a refused one
 pub lent-table :
-    {r : ForecastAnswer} {after before : List ℕ} (bytes : List ℕ) (t : TableValues) (s : State) (room : ℕ)
+    {r : ForecastAnswer} {after before : List ℕ} (bytes : List ℕ) (s : State) (room : ℕ)
     → tableRules {A = Unit} bytes (accepted tt) ≡ accepted tt
-    → t ≡ tableIn bytes
-    → Lent r after (forecastOnAnswer t s room) before
+    → Lent r after (forecastOnAnswer (tableIn bytes) s room) before
     → Lent r after (forecastAnswer bytes s room) before
 unfolding forecastAnswer
-lent-table bytes t s room k e h =
-    lent-as (table-laws.rules-accepted bytes _ k ∙ ap (λ (x : TableValues). forecastOnAnswer x s room) (sym e)) h
+lent-table bytes s room k h = lent-as (table-laws.rules-accepted bytes _ k) h
 
 pub lent-table-refused :
     (bytes : List ℕ) (s : State) (room : ℕ) (before : List ℕ) (v : Verdict) (k : Refusal)

@@ -10,7 +10,7 @@ use text::put_four;
 use text::put_pair;
 
 // The digits of a number of at most four, put at a place; the place after them.
-fn put_short(out: &mut [u8], at: usize, v: u64, pairs: &[u16]) -> usize
+fn put_short(out: &mut [u8], at: usize, v: u32, pairs: &[u16]) -> usize
     requires { ⌜ (v < 10000) × ((at + 4 ≤ length (now out)) × (now pairs ≡ pairsBelow 100)) ⌝ }
     ensures { λ r. ⌜ Put (now (out .entry)) at (decimal v) (now (out .exit)) r × (r ≤ at + 4) ⌝ }
 {
@@ -32,9 +32,8 @@ fn put_short(out: &mut [u8], at: usize, v: u64, pairs: &[u16]) -> usize
     at + 4
 }
 
-// The first of the groups of four digits of a number of at most twelve.
-fn first_group(x: u64) -> u64
-    requires { ⌜ x < 1000000000000 ⌝ }
+// The first of the groups of four digits of a number of at most ten.
+fn first_group(x: u32) -> u32
     ensures { λ r. ⌜ (r ≡ firstGroup x) × (r < 10000) ⌝ }
 {
     if x < 10_000 {
@@ -46,9 +45,9 @@ fn first_group(x: u64) -> u64
     x / 100_000_000
 }
 
-// The digits of a number of at most twelve, put at a place in groups of four; the place after them.
-fn put_decimal(out: &mut [u8], at: usize, x: u64, pairs: &[u16]) -> usize
-    requires { ⌜ (x < 1000000000000) × ((at + 12 ≤ length (now out)) × (now pairs ≡ pairsBelow 100)) ⌝ }
+// The digits of a number of at most ten, put at a place in groups of four; the place after them.
+fn put_decimal(out: &mut [u8], at: usize, x: u32, pairs: &[u16]) -> usize
+    requires { ⌜ (at + 12 ≤ length (now out)) × (now pairs ≡ pairsBelow 100) ⌝ }
     ensures { λ r. ⌜ Put (now (out .entry)) at (decimal x) (now (out .exit)) r ⌝ }
 {
     let first = first_group(x);
@@ -64,10 +63,10 @@ fn put_decimal(out: &mut [u8], at: usize, x: u64, pairs: &[u16]) -> usize
     end
 }
 
-// As text::put_number, and faster, for numbers of at most twelve digits: the figures of each line. One place calls it, so that it is
+// As text::put_number, and faster, for numbers of at most ten digits: the figures of each line. One place calls it, so that it is
 // compiled into that loop, which then has no call.
-pub fn put_figure(out: &mut [u8], at: usize, x: u64, after: u8, pairs: &[u16]) -> usize
-    requires { ⌜ (x < 1000000000000) × ((at + 21 ≤ length (now out)) × (now pairs ≡ pairsBelow 100)) ⌝ }
+pub fn put_figure(out: &mut [u8], at: usize, x: u32, after: u8, pairs: &[u16]) -> usize
+    requires { ⌜ (at + 21 ≤ length (now out)) × (now pairs ≡ pairsBelow 100) ⌝ }
     ensures { λ r. ⌜ Put (now (out .entry)) at (decimal x ++ after ∷ []) (now (out .exit)) r × (r ≤ at + 21) ⌝ }
 {
     let end = put_decimal(&mut *out, at, x, pairs);

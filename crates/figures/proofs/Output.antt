@@ -30,7 +30,7 @@ use Rattle.state.specs.Answers.{verdict, stateAfter}
 use Rattle.state.specs.Rules.{figuresFit, rainsFit, placeFits, stateFits, stepsLeft}
 use Rattle.state.specs.Start.{firstRains, firstPlace, started}
 use Rattle.state.specs.States.{placeOf, filled}
-use Rattle.table.specs.InUse.{below, inUse, tableIn, valuesOf}
+use Rattle.table.specs.InUse.{below, inUse, tableIn}
 use Rattle.table.specs.Rules.{countsFit, sizeFits, tableRules}
 use Rattle.table.specs.Rules as table-rules
 use Rattle.table.specs.Tables.{tableOf}
@@ -43,5 +43,5 @@ use Rattle.weighting.specs.Weight.{turned, weight}
 use Rattle.figures.specs.Starred.{exampleInput, exampleOutput}
 
 pub whole-output : program exampleInput ≡ exampleOutput
-unfolding inflowOf correctedBy moved elementStep observationNumbers moveNumbers elementNumbers rainsAfter elementAt basinFits reachFits kindFits elementFits downFits startAnswer inputsIn stepOnAnswer stepAnswer forecastOnAnswer forecastAnswer allBelow offsetOf pieceAt gaugeAt offsetFits offsetZero pieceOf topBefore pieceInUseFits pieceUnused pieceFits curveFits elementBefore gaugeFits listed byElementAndLead forecastFigures spaceFits leadsAnswer layout countWritten lentAfter joined lineFrom elementLines answerLines refusalLine gain gainMargin correctedDischarge correctedVariance corrected correctionNumbers correctionAnswer AnsweredFiguresFit stepInflow noInflow joinedInflow meanRainInflow forecastInflow inflowNumbers judgedInflow routedDischarge keptVariance broughtVariance routedVariance routed judgedVariance routingNumbers routingAnswer rainCount rainSum forecastOwn leadFigures leadNumbers networkDown networkCell aboveOf newFigures networkNumbers stepOwn observationIn noObservation figuresIn stepPlace stepped stepNumbers drained walked gathered newCell tableBytes emptyState openAnswer weightOf pieceFor depth dischargeAt onPiece rated OffsetFits AnsweredDischargeFits basinOf basinsBefore basinCount rainAt stageAt readingOf readingAt piecesOf rateAnswer observationOf told observationAt atElement rainOf inputRain inputObservation inputAt record-rules.lengthFits record-rules.versionFits rainFits stageFits isAccepted readingFits recordRules recordBytes restAfter recordsText openText program figuresLines refusalPrinted forecastPrinted stepPrinted recordPrinted recordOnPrinted verdict stateAfter figuresFit rainsFit placeFits stateFits stepsLeft firstRains firstPlace started placeOf filled below inUse tableIn valuesOf table-rules.lengthFits table-rules.versionFits countsFit sizeFits tableRules tableOf digitsWithin decimal lastDigits line somePasses underCeiling weightedMean gapOf blended blendAnswer AnsweredEstimateFits turned weight
+unfolding inflowOf correctedBy moved elementStep observationNumbers moveNumbers elementNumbers rainsAfter elementAt basinFits reachFits kindFits elementFits downFits startAnswer inputsIn stepOnAnswer stepAnswer forecastOnAnswer forecastAnswer allBelow offsetOf pieceAt gaugeAt offsetFits offsetZero pieceOf topBefore pieceInUseFits pieceUnused pieceFits curveFits elementBefore gaugeFits listed byElementAndLead forecastFigures spaceFits leadsAnswer layout countWritten lentAfter joined lineFrom elementLines answerLines refusalLine gain gainMargin correctedDischarge correctedVariance corrected correctionNumbers correctionAnswer AnsweredFiguresFit stepInflow noInflow joinedInflow meanRainInflow forecastInflow inflowNumbers judgedInflow routedDischarge keptVariance broughtVariance routedVariance routed judgedVariance routingNumbers routingAnswer rainCount rainSum forecastOwn leadFigures leadNumbers networkDown networkCell aboveOf newFigures networkNumbers stepOwn observationIn noObservation figuresIn stepPlace stepped stepNumbers drained walked gathered newCell tableBytes emptyState openAnswer weightOf pieceFor depth dischargeAt onPiece rated OffsetFits AnsweredDischargeFits basinOf basinsBefore basinCount rainAt stageAt readingOf readingAt piecesOf rateAnswer observationOf told observationAt atElement rainOf inputRain inputObservation inputAt record-rules.lengthFits record-rules.versionFits rainFits stageFits isAccepted readingFits recordRules recordBytes restAfter recordsText openText program figuresLines refusalPrinted forecastPrinted stepPrinted recordPrinted recordOnPrinted verdict stateAfter figuresFit rainsFit placeFits stateFits stepsLeft firstRains firstPlace started placeOf filled below inUse tableIn table-rules.lengthFits table-rules.versionFits countsFit sizeFits tableRules tableOf digitsWithin decimal lastDigits line somePasses underCeiling weightedMean gapOf blended blendAnswer AnsweredEstimateFits turned weight
 whole-output = refl

@@ -1,14 +1,14 @@
 // The state that a start leaves.
 ghost use mathlib.Core.Path.{_≡_};
-ghost use Prim.Native.Nat.{_≤_};
-ghost use Rattle.table.specs.InUse.{valuesOf};
+ghost use Rattle.table.specs.Bounds.{AcceptedTable};
+ghost use Rattle.table.specs.InUse.{tableIn};
 ghost use Rattle.state.specs.Start.{firstRains, firstPlace, started};
 use elements::Element;
+use elements::element_at;
 use method::Figures;
 use state::ElementState;
 use state::Rains;
 use state::State;
-use table::Table;
 use units::Discharge;
 use units::Variance;
 
@@ -43,15 +43,14 @@ fn first_place(e: Element, before: ElementState) -> ElementState
     }
 }
 
-// The state that a start on an accepted table leaves.
-pub fn start_on(table: Table, state: State) -> State
-    requires { ⌜ table .elements ≤ 64 ⌝ }
-    ensures { λ r. ⌜ r ≡ started (valuesOf table) state ⌝ }
+// The state that a start on the bytes of an accepted table of n elements leaves.
+pub fn start_on(table: &[u8], n: usize, state: State) -> State
+    requires { ⌜ AcceptedTable (now table) × (n ≡ tableIn (now table) .elements) ⌝ }
+    ensures { λ r. ⌜ r ≡ started (tableIn (now (table .entry))) state ⌝ }
 {
-    let n = table.elements;
     let mut next = state;
     for i in 0..n {
-        next.element[i] = first_place(table.element[i], next.element[i]);
+        next.element[i] = first_place(element_at(table, i), next.element[i]);
     }
     next.elements = n;
     next.steps = 0;

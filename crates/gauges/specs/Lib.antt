@@ -1,4 +1,3 @@
 pub mod Gauges
 pub mod Rules
-pub mod Decoded
 pub mod Bounds

@@ -19,24 +19,25 @@ use Rattle.units.proofs.CeilingLaws.{same-accepted, same-refused-number}
 use Rattle.method.specs.declared.Figures.{Figures}
 use Rattle.method.specs.Inflow.{meanRainInflow, forecastInflow}
 use Rattle.inflow.specs.Basin.{basinInflow}
-use Rattle.table.specs.declared.Table.{Table}
 use Rattle.table.specs.declared.Verdict.{Verdict}
 use Rattle.table.specs.declared.Verdict.the-variants.{Accepted, Refused}
 use Rattle.table.specs.Verdicts.{verdictAnswer}
 use Rattle.table.specs.Tables.{TableValues}
 use Rattle.table.specs.Bounds.{TableBounds}
-use Rattle.table.specs.InUse.{valuesOf}
-use Rattle.table.proofs.HeldLaws.{element-held}
+use Rattle.table.specs.InUse.{tableIn}
+use Rattle.table.proofs.InUseLaws.{element-read}
 use Rattle.elements.specs.declared.Element.{Element}
-use Rattle.elements.specs.Elements.{noElement}
+use Rattle.elements.specs.Elements.{elementAt}
 use Rattle.record.specs.declared.Observation.the-variants.{Nothing}
-use Rattle.plan.specs.Plans.{WeightsHeld}
+use Rattle.plan.specs.declared.Plan.{Plan}
+use Rattle.plan.specs.Plans.{PlanFits}
 use Rattle.state.specs.declared.State.{State}
 use Rattle.state.specs.States.{noPlace, placeOf}
 use Rattle.state.specs.Rules.{stateFits}
 use Rattle.network.proofs.StateFitsLaws.{places-under, rains-under}
 use Rattle.network.specs.Step.{noObservation, figuresIn}
 use Rattle.network.specs.Forecast.{rainCount, rainSum, forecastOwn, leadFigures, leadNumbers}
+use Rattle.network.proofs.InRangeLaws.{within, down-within}
 use Rattle.network.proofs.CoursesLaws.{course-under}
 use Rattle.leads.specs.declared.ForecastAnswer.the-variants as of-forecast
 use Rattle.leads.specs.Answer.{forecastFigures, spaceFits, leadsAnswer}
@@ -44,6 +45,7 @@ use Rattle.leads.specs.Lent.{layout, countWritten, lentAfter, Lent}
 use Rattle.rain_sums.specs.Sums.{StateUnder, sumOf}
 use Rattle.rain_sums.proofs.RainLaws.{sum-is}
 use Rattle.answer_space.specs.Places.{LeadsHeld}
+use Rattle.answer_space.proofs.PlacesLaws.{place-fits}
 use Rattle.leads.specs.Held.{LeadsWorked, writtenBy}
 use Rattle.one_lead.specs.declared.Course.{Course}
 use Rattle.one_lead.specs.Course.{courseOwn}
@@ -54,19 +56,38 @@ use Rattle.leads.proofs.LayoutLaws.{answer-laid}
 use Rattle.leads.proofs.LeadsLaws.{figures-again, LeadsWalked, LeadsCourse, lead-part, lead-whole}
 
 -- what rule 8 gives
-pub state-under : (table : Table) (s : State) → stateFits (valuesOf table) s ≡ true → StateUnder table s
-unfolding valuesOf
-state-under table s h = record { figures = places-under _ _ h; rains = rains-under _ _ h }
-
--- an accepted table has at most twelve leads
-pub few-leads : (table : Table) → TableBounds (valuesOf table) → table .leads ≤ 12
-unfolding valuesOf
-few-leads table b = b .leadsMost
+pub state-under : (t : TableValues) (s : State) → stateFits t s ≡ true → StateUnder t s
+state-under t s h = record { figures = places-under _ _ h; rains = rains-under _ _ h }
 
 -- the smaller of 3 and the step count
 pub small-count : (count steps : ℕ) → count ≡ rainCount steps → count ≤ 3
 unfolding rainCount
 small-count count steps e = omega (arith, e)
+
+-- ---- what a plan says of its table
+
+module _ (bytes : List ℕ) (plan : Plan) (p : PlanFits bytes plan) where
+  -- the numbers that the answer needs
+  pub needed-held :
+      {needed : ℕ}
+      → needed ≡ 4 * plan .elements * (plan .leads + 1)
+      → needed ≡ 4 * tableIn bytes .elements * (tableIn bytes .leads + 1)
+  needed-held h = h ∙ rw (p .elements, p .leads)
+
+  pub short-plan : plan .leads ≤ 12
+  short-plan = rw (p .leads) (p .table .bounds .leadsMost)
+
+  -- the last places of an element in use, of what drains in, and of what it drains into
+  module _ {i : ℕ} (used : i < tableIn bytes .elements) where
+    pub own-place : i * (plan .leads + 1) + plan .leads < 832
+    own-place = place-fits 64 _ _ _ (within bytes (p .table) used) (omega arith) (omega (arith, short-plan))
+
+    pub above-place : (i + 1) * (plan .leads + 1) + plan .leads < 845
+    above-place =
+        place-fits 65 _ _ _ (omega (arith, within bytes (p .table) used)) (omega arith) (omega (arith, short-plan))
+
+    pub below-place : elementAt bytes i .down * (plan .leads + 1) + plan .leads < 845
+    below-place = place-fits 65 _ _ _ (down-within bytes (p .table) used) (omega arith) (omega (arith, short-plan))
 
 -- ---- one element
 
@@ -84,29 +105,30 @@ own-held c t s i count e one few brought l =
     let n : c .lead + l ≡ suc l = omega (arith, one) in rw (n, brought, few, e)
 
 -- what the code takes of element i
-pub course-of :
-    (table : Table) (weights : List ℕ) (s : State) (i rain count brought : ℕ)
-    → i < table .elements
-    → WeightsHeld weights table (table .elements)
-    → count ≡ rainCount (s .steps)
-    → rain ≡ sumOf (getD (table .element) i noElement .kind) (getD (s .element) i noPlace .rains) count
-    → brought ≡ meanRainInflow rain count (getD (table .element) i noElement .area) (getD (table .element) i noElement .runoff)
-    → (leads : ℕ)
-    → LeadsCourse (valuesOf table) s
-    (record { element = getD (table .element) i noElement; weight = getD weights i 0; brought = brought; lead = 1; observation = Nothing }) i leads
-unfolding placeOf noObservation
-course-of table weights s i rain count brought l w c r b leads =
-    record {
-      element = sym (element-held table i l);
-      weight = w .at i l;
-      observation = refl;
-      inflow = λ lead m k.
-          own-held _ _ _ _ count (sym (element-held table i l)) refl c
-          (b
-          ∙ ap (λ (sum : ℕ). meanRainInflow sum count (getD (table .element) i noElement .area) (getD (table .element) i noElement .runoff))
-          (sum-is _ (getD (s .element) i noPlace .rains) count rain r (ap (λ (e : Element). e .kind) (sym (element-held table i l)) ∙ k)))
-          lead;
-    }
+module _ (bytes : List ℕ) (plan : Plan) (fits : PlanFits bytes plan) (s : State) (i : ℕ) (used : i < tableIn bytes .elements) where
+  pub course-of :
+      (e : Element) (rain count brought : ℕ)
+      → e ≡ elementAt bytes i
+      → count ≡ rainCount (s .steps)
+      → rain ≡ sumOf (e .kind) (getD (s .element) i noPlace .rains) count
+      → brought ≡ meanRainInflow rain count (e .area) (e .runoff)
+      → (leads : ℕ)
+      → LeadsCourse (tableIn bytes) s
+      (record { element = e; weight = getD (plan .weight) i 0; brought = brought; lead = 1; observation = Nothing }) i leads
+  unfolding placeOf noObservation
+  course-of e rain count brought is c r b leads =
+      let held : e ≡ tableIn bytes .element i = is ∙ sym (element-read bytes i used) in
+      record {
+        element = held;
+        weight = fits .weights i used;
+        observation = refl;
+        inflow = λ lead m k.
+            own-held _ _ _ _ count held refl c
+            (b
+            ∙ ap (λ (sum : ℕ). meanRainInflow sum count (e .area) (e .runoff))
+            (sum-is _ (getD (s .element) i noPlace .rains) count rain r (ap (λ (x : Element). x .kind) held ∙ k)))
+            lead;
+      }
 
 pub first-held : (t : TableValues) (s : State) (i : ℕ) → getD (s .element) i noPlace .figures ≡ leadFigures t s 0 i
 unfolding leadFigures figuresIn placeOf
@@ -114,47 +136,41 @@ first-held t s i = refl
 
 -- where no number of the forecast passes, none of element i does
 pub element-under :
-    (table : Table) (s : State) (c : Course) (i : ℕ)
-    → LeadsCourse (valuesOf table) s c i (table .leads)
+    (t : TableValues) (s : State) (c : Course) (i leads : ℕ)
+    → LeadsCourse t s c i leads
     → (first : Figures)
-    → first ≡ leadFigures (valuesOf table) s 0 i
+    → first ≡ leadFigures t s 0 i
     → (answer sums : List ℕ)
-    → LeadsWalked (valuesOf table) s (table .leads + 1) (table .leads) i answer sums
-    → i < table .elements
-    → Under (leadNumbers (valuesOf table) s (table .leads))
-    → Under (courseAll c first (drainedAt sums (table .leads + 1) i) (table .leads))
-unfolding valuesOf
-element-under table s c i of first is answer sums h l u =
-    course-under _ _ _ _ c i _ of (figures-again (valuesOf table) s) first is _ _ _ h (table .elements) l (λ k m. lead-part (valuesOf table) s k (table .leads) m u)
+    → LeadsWalked t s (leads + 1) leads i answer sums
+    → i < t .elements
+    → Under (leadNumbers t s leads)
+    → Under (courseAll c first (drainedAt sums (leads + 1) i) leads)
+element-under t s c i leads of first is answer sums h l u =
+    course-under _ _ _ _ c i _ of (figures-again t s) first is _ _ _ h (t .elements) l (λ k m. lead-part t s k leads m u)
 
 -- ---- the leads that the answer holds
 
-module _ (table : Table) (s : State) where
+module _ (t : TableValues) (s : State) (leads : ℕ) (all : leads ≡ t .leads) where
   -- all elements are worked out
   pub worked-accepted :
-      (answer sums : List ℕ) (i : ℕ)
-      → LeadsWalked (valuesOf table) s (table .leads + 1) (table .leads) i answer sums
-      → i ≡ table .elements
-      → LeadsWorked Accepted answer (valuesOf table) s
-  unfolding valuesOf
+      (answer sums : List ℕ) (i : ℕ) → LeadsWalked t s (leads + 1) leads i answer sums → i ≡ t .elements → LeadsWorked Accepted answer t s
   worked-accepted answer sums i h e =
-      let g = subst (λ (n : ℕ). LeadsWalked (valuesOf table) s (table .leads + 1) (table .leads) n answer sums) e h in
+      let g = rw (e, all) at h in
       record {
-        verdict = under-accepted tt _ (lead-whole (valuesOf table) s (table .leads) (g .under));
+        verdict = under-accepted tt _ (lead-whole t s (t .leads) (g .under));
         held = λ v. g .held;
       }
 
   -- 16 at one of them
   pub worked-refused :
       (answer numbers : List ℕ) (v : Verdict) {j : Refusal}
-      → (Under (leadNumbers (valuesOf table) s (table .leads)) → Under numbers)
+      → (Under (leadNumbers t s leads) → Under numbers)
       → verdictAnswer v ≡ underCeiling {A = Unit} numbers tt
       → v ≡ Refused j
-      → LeadsWorked (Refused AboveCeiling) answer (valuesOf table) s
-  unfolding valuesOf
+      → LeadsWorked (Refused AboveCeiling) answer t s
   worked-refused answer numbers v part h e =
       record {
-        verdict = refused-whole tt numbers (leadNumbers (valuesOf table) s (table .leads)) part (sym (ap verdictAnswer e) ∙ h);
+        verdict = refused-whole tt numbers (leadNumbers t s (t .leads)) (rw all at part) (sym (ap verdictAnswer e) ∙ h);
         held = λ a. absurd (not-both (ap verdictAnswer a) refl);
       }
 

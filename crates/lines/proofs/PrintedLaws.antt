@@ -1,22 +1,19 @@
 -- Laws of what is printed.
 use Prim.Native.Nat.{ℕ, zero, suc, _+_, _*_, _≤_, _<_}
-use mathlib.Core.Bool.{true}
 use mathlib.Core.List.{List, [], _∷_, _++_, append-assoc}
 use mathlib.Core.Path.{_≡_, refl, ap, _∙_}
-use borrow.Author.Tests.{ltb-true}
-use lib.Dec.{ltb}
 use native.Mathlib.Nat.{add-zero, mul-le-mul-right}
 use native.Mathlib.Numerals.{add-one}
 use native.Mathlib.Omega.{arith}
 use lib.ListN.{length, getD, List·getD-append}
-use Rattle.fields.proofs.RangeLaws.{all-four}
 use Rattle.text.specs.Decimal.{decimal}
 use Rattle.text.specs.Lines.{line}
 use Rattle.text.specs.Places.{Put}
 use Rattle.text.proofs.LineLaws.{line-then}
 use Rattle.text.proofs.PlacesLaws.{put-then, put-same, put-nothing}
+use Rattle.lines.specs.Ceiling.{FiguresUnderCeiling}
 use Rattle.lines.specs.Printed.{joined, lineFrom, elementLines, answerLines, refusedWord, refusalLine}
-use Rattle.lines.specs.Starts.{byteAfter, figuresFrom, allShort, lineAfter, linesAfter}
+use Rattle.lines.specs.Starts.{byteAfter, figuresFrom, lineAfter, linesAfter}
 
 -- the three parts of a refusal's line
 pub refusal-put :
@@ -63,32 +60,9 @@ pub figures-line : (numbers : List ℕ) (from : ℕ) → joined (figureText numb
 unfolding joined line
 figures-line numbers from = rw add-zero (simp append-assoc)
 
--- four figures put one after the other
-pub figures-put :
-    (a b c d : ℕ) {l m n o p : List ℕ} {at i j k e : ℕ}
-    → Put l at (decimal a ++ 32 ∷ []) m i
-    → Put m i (decimal b ++ 32 ∷ []) n j
-    → Put n j (decimal c ++ 32 ∷ []) o k
-    → Put o k (decimal d ++ 10 ∷ []) p e
-    → Put l at (line (a ∷ b ∷ c ∷ d ∷ [])) p e
-unfolding line
-figures-put a b c d w x y z =
-    put-same (line-then a b (c ∷ d ∷ []))
-    (put-then w (put-same (line-then b c (d ∷ [])) (put-then x (put-same (line-then c d []) (put-then y z)))))
-
--- each of four short figures
-pub short-at : (numbers : List ℕ) (from k : ℕ) → allShort numbers from ≡ true → k < 4 → getD numbers (from + k) 0 < 1000000000000
-unfolding allShort
-short-at numbers from k h l =
-    let a = all-four (ltb (getD numbers from 0) 1000000000000) (ltb (getD numbers (from + 1) 0) 1000000000000) (ltb (getD numbers (from + 2) 0) 1000000000000) (ltb (getD numbers (from + 3) 0) 1000000000000) h in
-    go k l (ltb-true _ _ (a .0)) (ltb-true _ _ (a .1 .0)) (ltb-true _ _ (a .1 .1 .0)) (ltb-true _ _ (a .1 .1 .1))
-  where
-    go : (i : ℕ) → i < 4 → getD numbers from 0 < 1000000000000 → getD numbers (from + 1) 0 < 1000000000000 → getD numbers (from + 2) 0 < 1000000000000 → getD numbers (from + 3) 0 < 1000000000000 → getD numbers (from + i) 0 < 1000000000000
-    go zero m a b c d = rw add-zero a
-    go (suc zero) m a b c d = b
-    go (suc (suc zero)) m a b c d = c
-    go (suc (suc (suc zero))) m a b c d = d
-    go (suc (suc (suc (suc i)))) m a b c d = absurd (omega arith)
+-- each of the first figures is under the ceiling, where more of them are
+pub fewer-under : (numbers : List ℕ) (few many : ℕ) → few ≤ many → FiguresUnderCeiling numbers many → FiguresUnderCeiling numbers few
+fewer-under numbers few many h u = record { at = λ k l. u .at k (omega arith) }
 
 -- one figure more
 pub figure-more :

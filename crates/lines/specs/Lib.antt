@@ -1,2 +1,3 @@
+pub mod Ceiling
 pub mod Printed
 pub mod Starts

@@ -1,6 +1,6 @@
 -- The lines of an element, by how each of them starts: with the step count and the element.
 use Prim.Native.Nat.{ℕ, _+_, _*_}
-use mathlib.Core.Bool.{Bool, cond, _&&_}
+use mathlib.Core.Bool.{cond}
 use mathlib.Core.List.{List, [], _∷_, _++_}
 use lib.Dec.{ltb}
 use lib.ListN.{getD}
@@ -10,12 +10,6 @@ use Rattle.lines.specs.Printed.{joined}
 -- "discharge, margin, variance, variance margin": the last four numbers of a line
 abbrev pub figuresFrom : List ℕ → ℕ → List ℕ
 figuresFrom numbers at = getD numbers at 0 ∷ getD numbers (at + 1) 0 ∷ getD numbers (at + 2) 0 ∷ getD numbers (at + 3) 0 ∷ []
-
--- whether each of them has at most twelve digits
-unfoldable pub allShort : List ℕ → ℕ → Bool
-allShort numbers at =
-    ((ltb (getD numbers at 0) 1000000000000 && ltb (getD numbers (at + 1) 0) 1000000000000) && ltb (getD numbers (at + 2) 0) 1000000000000)
-    && ltb (getD numbers (at + 3) 0) 1000000000000
 
 -- the byte after each of these: "single spaces", and a line feed at the end
 abbrev pub byteAfter : ℕ → ℕ

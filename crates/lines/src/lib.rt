@@ -1,4 +1,3 @@
-ghost use mathlib.Core.Bool.{true};
 ghost use mathlib.Core.List.{[], _∷_, _++_};
 ghost use mathlib.Core.Path.{_≡_};
 ghost use Prim.Native.Nat.{_+_, _*_, _≤_, _<_};
@@ -7,8 +6,9 @@ ghost use Rattle.text.specs.Decimal.{decimal};
 ghost use Rattle.text.specs.Lines.{line};
 ghost use Rattle.text.specs.Pairs.{pairsBelow};
 ghost use Rattle.text.specs.Places.{Put};
+ghost use Rattle.lines.specs.Ceiling.{FiguresUnderCeiling};
 ghost use Rattle.lines.specs.Printed.{refusalLine, answerLines};
-ghost use Rattle.lines.specs.Starts.{byteAfter, figuresFrom, allShort, lineAfter, linesAfter};
+ghost use Rattle.lines.specs.Starts.{byteAfter, figuresFrom, lineAfter, linesAfter};
 use figure_text::put_figure;
 use text::digit_pairs;
 use text::put_bytes;
@@ -44,56 +44,17 @@ fn byte_after(k: usize) -> u8
     if k < 3 { b' ' } else { b'\n' }
 }
 
-// Whether the four figures from a place on have at most twelve digits each.
-fn all_short(numbers: &[u64], from: usize) -> bool
-    requires { ⌜ from + 4 ≤ length (now numbers) ⌝ }
-    ensures { λ r. ⌜ r ≡ allShort (now (numbers .entry)) from ⌝ }
-{
-    (numbers[from] < 1_000_000_000_000)
-        & (numbers[from + 1] < 1_000_000_000_000)
-        & (numbers[from + 2] < 1_000_000_000_000)
-        & (numbers[from + 3] < 1_000_000_000_000)
-}
-
-// Four figures of at most twelve digits, which end a line, put at a place; the place after them.
-fn put_short_figures(
-    out: &mut [u8],
-    at: usize,
-    numbers: &[u64],
-    from: usize,
-    pairs: &[u16],
-) -> usize
-    requires { ⌜ (allShort (now numbers) from ≡ true) × ((at + 84 ≤ length (now out)) × ((from + 4 ≤ length (now numbers)) × (now pairs ≡ pairsBelow 100))) ⌝ }
+// The four figures from a place on, which end a line, put at a place; the place after them.
+fn put_figures(out: &mut [u8], at: usize, numbers: &[u64], from: usize, pairs: &[u16]) -> usize
+    requires { ⌜ (at + 84 ≤ length (now out)) × ((from + 4 ≤ length (now numbers)) × (FiguresUnderCeiling (now numbers) (from + 4) × (now pairs ≡ pairsBelow 100))) ⌝ }
     ensures { λ r. ⌜ Put (now (out .entry)) at (line (figuresFrom (now (numbers .entry)) from)) (now (out .exit)) r × (r ≤ at + 84) ⌝ }
 {
     let mut next = at;
     for k in 0..4 {
         let after = byte_after(k);
-        next = put_figure(&mut *out, next, numbers[from + k], after, pairs);
+        next = put_figure(&mut *out, next, numbers[from + k] as u32, after, pairs);
     }
     next
-}
-
-// Four figures of any length, which end a line, put at a place; the place after them. No figure that is handed out is so long.
-fn put_long_figures(out: &mut [u8], at: usize, numbers: &[u64], from: usize) -> usize
-    requires { ⌜ (at + 84 ≤ length (now out)) × (from + 4 ≤ length (now numbers)) ⌝ }
-    ensures { λ r. ⌜ Put (now (out .entry)) at (line (figuresFrom (now (numbers .entry)) from)) (now (out .exit)) r × (r ≤ at + 84) ⌝ }
-{
-    let p1 = put_number(&mut *out, at, numbers[from], b' ');
-    let p2 = put_number(&mut *out, p1, numbers[from + 1], b' ');
-    let p3 = put_number(&mut *out, p2, numbers[from + 2], b' ');
-    put_number(&mut *out, p3, numbers[from + 3], b'\n')
-}
-
-// The four figures from a place on, which end a line, put at a place; the place after them.
-fn put_figures(out: &mut [u8], at: usize, numbers: &[u64], from: usize, pairs: &[u16]) -> usize
-    requires { ⌜ (at + 84 ≤ length (now out)) × ((from + 4 ≤ length (now numbers)) × (now pairs ≡ pairsBelow 100)) ⌝ }
-    ensures { λ r. ⌜ Put (now (out .entry)) at (line (figuresFrom (now (numbers .entry)) from)) (now (out .exit)) r × (r ≤ at + 84) ⌝ }
-{
-    if all_short(numbers, from) {
-        return put_short_figures(&mut *out, at, numbers, from, pairs);
-    }
-    put_long_figures(&mut *out, at, numbers, from)
 }
 
 // The line at a lead, with the four figures from a place on, put at a place; the place after it.
@@ -107,11 +68,11 @@ fn put_line(
     from: usize,
     pairs: &[u16],
 ) -> usize
-    requires { ⌜ (at + 147 ≤ length (now out)) × ((length (now start) ≡ 32) × ((size ≤ 32) × ((lead < 100) × ((from + 4 ≤ length (now numbers)) × (now pairs ≡ pairsBelow 100))))) ⌝ }
+    requires { ⌜ (at + 147 ≤ length (now out)) × ((length (now start) ≡ 32) × ((size ≤ 32) × ((lead < 100) × ((from + 4 ≤ length (now numbers)) × (FiguresUnderCeiling (now numbers) (from + 4) × (now pairs ≡ pairsBelow 100)))))) ⌝ }
     ensures { λ r. ⌜ Put (now (out .entry)) at (lineAfter (take size (now (start .entry))) lead (now (numbers .entry)) from) (now (out .exit)) r × (r ≤ at + 147) ⌝ }
 {
     let p1 = put_start(&mut *out, at, start, size);
-    let p2 = put_small(&mut *out, p1, lead as u64, b' ', pairs);
+    let p2 = put_small(&mut *out, p1, lead as u32, b' ', pairs);
     put_figures(&mut *out, p2, numbers, from, pairs)
 }
 
@@ -127,10 +88,10 @@ fn put_element(
     leads: usize,
     pairs: &[u16],
 ) -> usize
-    requires { ⌜ (at + 147 * leads ≤ length (now out)) × ((4 * (i * leads + leads) ≤ length (now numbers)) × ((i < 64) × ((leads ≤ 100) × ((length (now start) ≡ 32) × ((size ≤ 21) × (now pairs ≡ pairsBelow 100)))))) ⌝ }
+    requires { ⌜ (at + 147 * leads ≤ length (now out)) × ((4 * (i * leads + leads) ≤ length (now numbers)) × ((i < 64) × ((leads ≤ 100) × ((length (now start) ≡ 32) × ((size ≤ 21) × (FiguresUnderCeiling (now numbers) (4 * (i * leads + leads)) × (now pairs ≡ pairsBelow 100))))))) ⌝ }
     ensures { λ r. ⌜ Put (now (out .entry)) at (linesAfter (take size (now (start .entry)) ++ (decimal (i + 1) ++ 32 ∷ [])) leads (now (numbers .entry)) i) (now (out .exit)) r × ((r ≤ at + 147 * leads) × (take size (now (start .exit)) ≡ take size (now (start .entry)))) ⌝ }
 {
-    let whole = put_small(&mut *start, size, i as u64 + 1, b' ', pairs);
+    let whole = put_small(&mut *start, size, i as u32 + 1, b' ', pairs);
     let mut next = at;
     for lead in 0..leads {
         next = put_line(
@@ -156,7 +117,7 @@ pub fn put_lines(
     elements: usize,
     leads: usize,
 ) -> usize
-    requires { ⌜ (at + 147 * (elements * leads) ≤ length (now out)) × ((4 * (elements * leads) ≤ length (now numbers)) × ((elements ≤ 64) × (leads ≤ 100))) ⌝ }
+    requires { ⌜ (at + 147 * (elements * leads) ≤ length (now out)) × ((4 * (elements * leads) ≤ length (now numbers)) × ((elements ≤ 64) × ((leads ≤ 100) × FiguresUnderCeiling (now numbers) (4 * (elements * leads))))) ⌝ }
     ensures { λ r. ⌜ Put (now (out .entry)) at (answerLines steps leads (now (numbers .entry)) elements) (now (out .exit)) r × (r ≤ at + 147 * (elements * leads)) ⌝ }
 {
     let pairs = digit_pairs();

@@ -10,6 +10,7 @@ use native.Mathlib.Numerals.{add-one}
 use native.Mathlib.Omega.{arith}
 use lib.Dec.{eqb}
 use lib.ListN.{getD, replicate}
+use Rattle.record.proofs.RecordLaws.{zero-at}
 use Rattle.units.specs.Units.{C}
 use Rattle.method.specs.declared.Figures.{Figures}
 use Rattle.method.specs.Figures.{FiguresFit}
@@ -49,11 +50,6 @@ module _ (t : TableValues) (own : ℕ → Figures) (o : ℕ → Observation) (ol
   network-more i u v = rw add-one (both-under (networkNumbers t own o old i) (cellNumbers i) u v)
 
 -- ---- the sums
-
-zero-at : (n k : ℕ) → _≡_ {A = ℕ} (getD (replicate n 0) k 0) 0
-zero-at zero k = refl
-zero-at (suc n) zero = refl
-zero-at (suc n) (suc k) = zero-at n k
 
 none-summed : (n p : ℕ) → figuresAt (replicate n 0) p ≡ noInflow
 unfolding figuresAt noInflow

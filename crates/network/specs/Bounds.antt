@@ -2,23 +2,22 @@
 use Prim.Native.Nat.{ℕ, _≤_, _<_}
 use mathlib.Core.List.{List}
 use mathlib.Core.Path.{_≡_}
-use lib.ListN.{getD}
 use Rattle.method.specs.Figures.{FiguresFit}
 use Rattle.table.specs.InUse.{below}
 use Rattle.record.specs.declared.Input.{Input}
-use Rattle.record.specs.Decoded.{noInput, ObservationFits}
+use Rattle.record.specs.Decoded.{noInput, inputIn, ObservationFits}
 use Rattle.state.specs.declared.Rains.{Rains}
 use Rattle.state.specs.declared.State.{State}
 use Rattle.state.specs.States.{placeOf}
 
--- the inputs that an array holds for n elements
-unfoldable pub inputsOf : ℕ → List Input → ℕ → Input
-inputsOf n places = below n noInput (λ i. getD places i noInput)
+-- the inputs of n elements that numbers hold
+unfoldable pub inputsOf : ℕ → List ℕ → ℕ → Input
+inputsOf n numbers = below n noInput (inputIn numbers)
 
--- a rain, or the sum of the last three, and an observation in its ranges
-pub record InputsFit (places : List Input) (n : ℕ) : Type 0 where
-  pub rain : (i : ℕ) → i < n → inputsOf n places i .rain ≤ 9000
-  pub observation : (i : ℕ) → i < n → ObservationFits (inputsOf n places i .observation)
+-- rains and observations in their ranges
+pub record InputsFit (numbers : List ℕ) (n : ℕ) : Type 0 where
+  pub rain : (i : ℕ) → i < n → inputIn numbers i .rain ≤ 3000
+  pub observation : (i : ℕ) → i < n → ObservationFits (inputIn numbers i .observation)
 
 -- the first n places of a state are under the ceiling
 pub record FiguresUnder (s : State) (n : ℕ) : Type 0 where

@@ -2,3 +2,4 @@ pub mod Walk
 pub mod Step
 pub mod Bounds
 pub mod Forecast
+pub mod Held

@@ -16,7 +16,7 @@ use Rattle.table.specs.declared.Verdict.{Verdict}
 use Rattle.table.specs.declared.Verdict.the-variants.{Accepted}
 use Rattle.table.specs.Verdicts.{verdictAnswer}
 use Rattle.table.specs.Rules.{lengthFits, tableRules}
-use Rattle.table.specs.InUse.{valuesOf, tableIn}
+use Rattle.table.specs.InUse.{tableIn}
 use Rattle.table.proofs.TableLaws.{rules-accepted, rules-refused}
 use Rattle.state.specs.declared.State.{State}
 use Rattle.state.specs.declared.StateAnswer.{StateAnswer}
@@ -95,7 +95,6 @@ opened-on table answer prepared s size e a p =
       verdict = a′ .verdict;
       state = a′ .state;
       fits = λ v. p .fits (rules-kept table emptyState _ (a′ .verdict) v);
-      table = λ v. p .table (rules-kept table emptyState _ (a′ .verdict) v);
     }
 
 not-long-as : (input : List ℕ) (v : Verdict) → verdictAnswer v ≡ verdict (openAnswer input) → v ≡ Accepted
@@ -119,8 +118,8 @@ opened input size r t o e =
       verdict = v;
       state = rw (t .judged) (o .state);
       within = rw e (t .within);
-      fits = o .fits;
-      table = λ a. o .table a ∙ ap tableIn (t .bytes (not-long input _ v a));
+      fits = λ a. rw e (o .fits a);
+      bytes = λ a. rw e (t .bytes (not-long input _ v a));
       after = λ a. rw e (t .after (not-long input _ v a));
     }
 
@@ -135,9 +134,13 @@ started-on input r o v =
     judged ∙ rules-accepted (tableBytes input) _ kept in
     o .state ∙ ap (λ (a : Answer State). stateAfter a emptyState) found
 
-pub opened-fits : (input : List ℕ) (r : Opening) → Opened input r → r .verdict ≡ Accepted → stateFits (valuesOf (r .plan .table)) (r .state) ≡ true
+pub opened-fits :
+    (input : List ℕ) (r : Opening)
+    → Opened input r
+    → r .verdict ≡ Accepted
+    → stateFits (tableIn (take (r .length) input)) (r .state) ≡ true
 unfolding emptyState
 opened-fits input r o v =
-    let bounds = o .fits v .table in
-    rw (started-on input r o v, ← o .table v)
-    (started-fits (valuesOf (r .plan .table)) emptyState bounds (omega (arith, length-replicate 64 noPlace, bounds .elementsMost)))
+    let bounds = o .fits v .table .bounds in
+    rw (started-on input r o v, ← o .bytes v)
+    (started-fits (tableIn (take (r .length) input)) emptyState bounds (omega (arith, length-replicate 64 noPlace, bounds .elementsMost)))

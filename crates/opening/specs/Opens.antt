@@ -8,7 +8,6 @@ use lib.ListN.{length, take, drop}
 use Rattle.fields.specs.Bytes.{number32}
 use Rattle.table.specs.declared.Verdict.the-variants.{Accepted}
 use Rattle.table.specs.Verdicts.{verdictAnswer}
-use Rattle.table.specs.InUse.{valuesOf, tableIn}
 use Rattle.state.specs.Answers.{verdict, stateAfter}
 use Rattle.plan.specs.Plans.{PlanFits}
 use Rattle.engine.specs.Entries.{startAnswer}
@@ -26,14 +25,13 @@ pub record TableEnd (input : List ℕ) (size : ℕ) : Type 0 where
 pub record OpenedOn (bytes : List ℕ) (r : Opening) : Type 0 where
   pub verdict : verdictAnswer (r .verdict) ≡ verdict (startAnswer bytes emptyState)
   pub state : r .state ≡ stateAfter (startAnswer bytes emptyState) emptyState
-  pub fits : r .verdict ≡ Accepted → PlanFits (r .plan)
-  pub table : r .verdict ≡ Accepted → valuesOf (r .plan .table) ≡ tableIn bytes
+  pub fits : r .verdict ≡ Accepted → PlanFits bytes (r .plan)
 
 -- a start on the table that the input begins with; where it is accepted, the plan is that of the table and records follow it
 pub record Opened (input : List ℕ) (r : Opening) : Type 0 where
   pub verdict : verdictAnswer (r .verdict) ≡ verdict (openAnswer input)
   pub state : r .state ≡ stateAfter (openAnswer input) emptyState
   pub within : r .length ≤ length input
-  pub fits : r .verdict ≡ Accepted → PlanFits (r .plan)
-  pub table : r .verdict ≡ Accepted → valuesOf (r .plan .table) ≡ tableIn (tableBytes input)
+  pub fits : r .verdict ≡ Accepted → PlanFits (take (r .length) input) (r .plan)
+  pub bytes : r .verdict ≡ Accepted → take (r .length) input ≡ tableBytes input
   pub after : r .verdict ≡ Accepted → drop (r .length) input ≡ drop (number32 input 0 + 4) input

@@ -1,4 +1,4 @@
--- An accepted table with what is worked out of it once: the number of basins and the weight of each element.
+-- What is worked out of an accepted table once: its counts, the number of its basins and the weight of each element.
 use Prim.{Unit}
 use Prim.Native.Nat.{ℕ, _<_}
 use mathlib.Core.List.{List}
@@ -6,12 +6,11 @@ use mathlib.Core.Path.{_≡_}
 use lib.ListN.{getD}
 use Rattle.refusal.specs.Answers.{accepted}
 use Rattle.weighting.specs.Weight.{weight}
-use Rattle.table.specs.declared.Table.{Table}
 use Rattle.table.specs.Tables.{TableValues}
-use Rattle.table.specs.Bounds.{TableBounds}
+use Rattle.table.specs.Bounds.{AcceptedTable}
 use Rattle.table.specs.Verdicts.{verdictAnswer}
 use Rattle.table.specs.Rules.{tableRules}
-use Rattle.table.specs.InUse.{valuesOf, tableIn}
+use Rattle.table.specs.InUse.{tableIn}
 use Rattle.record.specs.Records.{basinCount}
 use Rattle.plan.specs.declared.Plan.{Plan}
 use Rattle.plan.specs.declared.PlanAnswer.{PlanAnswer}
@@ -20,23 +19,16 @@ use Rattle.plan.specs.declared.PlanAnswer.{PlanAnswer}
 unfoldable pub weightOf : TableValues → ℕ → ℕ
 weightOf t i = weight (t .step) (t .element i .lag)
 
--- the weight of each element in use
-pub record WeightsHeld (weights : List ℕ) (table : Table) (n : ℕ) : Type 0 where
-  pub at : (i : ℕ) → i < n → getD weights i 0 ≡ weightOf (valuesOf table) i
-
--- the weight of each element in use, and the number of basins
-pub record Weighs (weights : List ℕ) (basins : ℕ) (t : TableValues) : Type 0 where
-  pub at : (i : ℕ) → i < t .elements → getD weights i 0 ≡ weightOf t i
-  pub counted : basins ≡ basinCount t
-
--- a plan holds an accepted table, its number of basins and its weights
-pub record PlanFits (plan : Plan) : Type 0 where
-  pub table : TableBounds (valuesOf (plan .table))
-  pub basins : plan .basins ≡ basinCount (valuesOf (plan .table))
-  pub weights : WeightsHeld (plan .weight) (plan .table) (plan .table .elements)
+-- a plan is that of the bytes of an accepted table
+pub record PlanFits (bytes : List ℕ) (plan : Plan) : Type 0 where
+  pub table : AcceptedTable bytes
+  pub leads : plan .leads ≡ tableIn bytes .leads
+  pub elements : plan .elements ≡ tableIn bytes .elements
+  pub gauges : plan .gauges ≡ tableIn bytes .gauges
+  pub basins : plan .basins ≡ basinCount (tableIn bytes)
+  pub weights : (i : ℕ) → i < tableIn bytes .elements → getD (plan .weight) i 0 ≡ weightOf (tableIn bytes) i
 
 -- rules 1 to 7 decide; where they accept, the plan is that of the table
 pub record Prepared (bytes : List ℕ) (r : PlanAnswer) : Type 0 where
   pub verdict : verdictAnswer (r .verdict) ≡ tableRules bytes (accepted tt)
-  pub fits : tableRules {A = Unit} bytes (accepted tt) ≡ accepted tt → PlanFits (r .plan)
-  pub table : tableRules {A = Unit} bytes (accepted tt) ≡ accepted tt → valuesOf (r .plan .table) ≡ tableIn bytes
+  pub fits : tableRules {A = Unit} bytes (accepted tt) ≡ accepted tt → PlanFits bytes (r .plan)

@@ -1,13 +1,13 @@
 -- Laws of the sums of the last rains.
 use Prim.Native.Nat.{ℕ, zero, suc, _+_, _≤_, _<_}
+use mathlib.Core.List.{List}
 use mathlib.Core.Logic.{_≢_}
-use mathlib.Core.Path.{_≡_, refl, subst, _∙_}
+use mathlib.Core.Path.{_≡_, refl, _∙_}
 use borrow.Author.Tests.{eq-eqb}
 use lib.ListN.{getD}
-use Rattle.table.specs.declared.Table.{Table}
-use Rattle.table.proofs.HeldLaws.{element-held}
-use Rattle.elements.specs.declared.Element.{Element}
-use Rattle.elements.specs.Elements.{noElement}
+use Rattle.table.specs.InUse.{tableIn}
+use Rattle.table.proofs.InUseLaws.{element-read}
+use Rattle.elements.specs.Elements.{elementAt}
 use Rattle.state.specs.declared.Rains.{Rains}
 use Rattle.state.specs.declared.State.{State}
 use Rattle.state.specs.States.{noPlace, placeOf}
@@ -36,11 +36,10 @@ sum-is kind r c rain h k = h ∙ rw (eq-eqb kind 1 k)
 
 -- the rains of an element in use, as the code holds them
 pub rains-held :
-    (table : Table) (s : State)
-    → StateUnder table s
+    (bytes : List ℕ) (s : State)
+    → StateUnder (tableIn bytes) s
     → (i : ℕ)
-    → i < table .elements
-    → RainsUnder (getD (table .element) i noElement .kind) (getD (s .element) i noPlace .rains)
+    → i < tableIn bytes .elements
+    → RainsUnder (elementAt bytes i .kind) (getD (s .element) i noPlace .rains)
 unfolding placeOf
-rains-held table s h i l =
-    subst (λ (e : Element). RainsUnder (e .kind) (getD (s .element) i noPlace .rains)) (element-held table i l) (h .rains i l)
+rains-held bytes s h i l = rw (element-read bytes i l) at (h .rains i l)

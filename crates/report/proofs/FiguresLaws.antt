@@ -1,21 +1,22 @@
 -- Laws of the figures that a forecast answers.
 use Prim.Native.Nat.{ℕ, zero, suc, _+_, _*_, _≤_}
-use mathlib.Core.Bool.{Bool, true, false, cond}
 use mathlib.Core.List.{List, [], _∷_, _++_}
 use mathlib.Core.Path.{_≡_, refl, sym, ap, _∙_}
 use native.Mathlib.Omega.{arith}
 use native.Mathlib.Nat.{mul-le-mul-left, mul-le-mul-right}
-use lib.ListN.{length, length-append}
-use Rattle.refusal.specs.Answers.{Answer, accepted, refused, rule}
-use Rattle.units.specs.Ceiling.{somePasses, underCeiling}
+use lib.ListN.{length, drop, length-append, List·getD-append}
+use Rattle.refusal.specs.Answers.{Answer, accepted, refused}
 use Rattle.method.specs.declared.Figures.{Figures}
 use Rattle.table.specs.Tables.{TableValues}
 use Rattle.state.specs.declared.State.{State}
-use Rattle.state.specs.Rules.{stateFits}
-use Rattle.network.specs.Forecast.{leadFigures, leadNumbers}
-use Rattle.leads.specs.Answer.{listed, byElementAndLead, forecastFigures, leadsAnswer, spaceFits}
-use Rattle.leads.specs.Lent.{layout}
+use Rattle.network.specs.Forecast.{leadFigures}
+use Rattle.leads.specs.declared.ForecastAnswer.{ForecastAnswer}
+use Rattle.leads.specs.declared.ForecastAnswer.the-variants.{Accepted}
+use Rattle.leads.specs.Answer.{listed, byElementAndLead, forecastFigures}
+use Rattle.leads.specs.Lent.{layout, countAnswer, countWritten, lentAfter, Lent}
 use Rattle.engine.specs.Entries.{forecastOnAnswer}
+use Rattle.engine.proofs.ForecastLaws.{forecasting-on, answer-under}
+use Rattle.lines.specs.Ceiling.{FiguresUnderCeiling}
 
 pub length-layout : (fs : List Figures) → length (layout fs) ≡ 4 * length fs
 unfolding layout
@@ -32,26 +33,39 @@ unfolding byElementAndLead
 length-by-element f zero w = omega arith
 length-by-element f (suc n) w = rw (length-append, length-by-element f n w, length-listed (f n) w) (omega arith)
 
--- a rule that is kept
-kept : {A : Type 0} (n : ℕ) (b : Bool) (rest : Answer A) (a : A) → rule n b rest ≡ accepted a → rest ≡ accepted a
-kept n true rest a h = h
-kept n false rest a h = absurd (let z : _≡_ {A = ℕ} 0 1 = cc in omega arith)
-
-under : {A : Type 0} (b : Bool) (a r : A) → cond b (refused 16) (accepted r) ≡ accepted a → r ≡ a
-under true a r h = absurd (let z : _≡_ {A = ℕ} 0 1 = cc in omega arith)
-under false a r h = cc
-
 -- an accepted forecast has figures for each element at each lead
 pub figures-count :
     (t : TableValues) (s : State) (room : ℕ) (fs : List Figures)
     → forecastOnAnswer t s room ≡ accepted fs
     → length fs ≡ t .elements * (t .leads + 1)
-unfolding forecastOnAnswer leadsAnswer underCeiling forecastFigures
+unfolding forecastFigures
 figures-count t s room fs h =
-    let found = kept 8 (stateFits t s) (leadsAnswer t s room) fs h in
-    let ceiling = kept 15 (spaceFits t room) (underCeiling (leadNumbers t s (t .leads)) (forecastFigures t s)) fs found in
-    let e : forecastFigures t s ≡ fs = under (somePasses (leadNumbers t s (t .leads))) fs (forecastFigures t s) ceiling in
-    rw (← e) (length-by-element (λ i lead. leadFigures t s lead i) (t .elements) (t .leads + 1))
+    rw (forecasting-on t s room fs h .1)
+    (length-by-element (λ i lead. leadFigures t s lead i) (t .elements) (t .leads + 1))
+
+-- and their numbers, which it leaves in lent space, are at most C each
+pub figures-under :
+    (t : TableValues) (s : State) (room : ℕ) (r : ForecastAnswer) (count : ℕ) {after before : List ℕ}
+    → Lent r after (forecastOnAnswer t s room) before
+    → r ≡ Accepted count
+    → FiguresUnderCeiling after (4 * (t .elements * (t .leads + 1)))
+unfolding countWritten lentAfter
+figures-under t s room r count {after} {before} lent e = go (forecastOnAnswer t s room) refl lent
+  where
+    go :
+        (answer : Answer (List Figures))
+        → forecastOnAnswer t s room ≡ answer
+        → Lent r after answer before
+        → FiguresUnderCeiling after (4 * (t .elements * (t .leads + 1)))
+    go (accepted fs) a l =
+        let all = length-layout fs in
+        let counted = figures-count t s room fs a in
+        record {
+          at = λ k few. rw (l .numbers, List·getD-append (layout fs) (drop (length (layout fs)) before) 0 k (omega arith)) (answer-under t s room fs a k);
+        }
+    go (refused n) a l =
+        let c : accepted count ≡ refused n = sym (ap countAnswer e) ∙ l .count in
+        let z : _≡_ {A = ℕ} 0 1 = cc in absurd (omega arith)
 
 -- the numbers of an accepted forecast within the program's lent space
 pub few-figures : (n w : ℕ) → n ≤ 64 → w ≤ 13 → n * w ≤ 832

@@ -15,9 +15,8 @@ use Rattle.text.proofs.PlacesLaws.{put-same}
 use Rattle.lines.specs.Printed.{answerLines, refusalLine}
 use Rattle.lines.proofs.PrintedLaws.{lines-before}
 use Rattle.method.specs.declared.Figures.{Figures}
-use Rattle.table.specs.declared.Table.{Table}
 use Rattle.table.specs.Bounds.{TableBounds}
-use Rattle.table.specs.InUse.{valuesOf, tableIn}
+use Rattle.table.specs.InUse.{tableIn}
 use Rattle.table.specs.Rules.{tableRules}
 use Rattle.table.proofs.TableLaws.{rules-accepted}
 use Rattle.engine.proofs.NextLaws.{next-fits}
@@ -37,7 +36,9 @@ use Rattle.report.specs.declared.TextAnswer.{TextAnswer}
 use Rattle.report.specs.Records.{Printed, room, figuresLines, refusalPrinted, forecastPrinted, stepPrinted, recordPrinted, recordOnPrinted}
 use Rattle.report.specs.Answers.{Told, ToldOf, Reported}
 use Rattle.report.proofs.FiguresLaws.{length-layout, few-figures}
-use Rattle.table.proofs.HeldLaws.{few-elements}
+use Rattle.lines.specs.Ceiling.{FiguresUnderCeiling}
+use Rattle.plan.specs.declared.Plan.{Plan}
+use Rattle.plan.specs.Plans.{PlanFits}
 
 pub reported-as :
     {r : RecordAnswer} {before after : List ℕ} {at : ℕ} {p q : Printed} → p ≡ q → Reported r before at after p → Reported r before at after q
@@ -146,13 +147,29 @@ step-refused t forecast s (refused n) a k h e =
     let z : number k ≡ n = cc in
     rw (z, h .state)
 
-pub few-leads : (table : Table) → TableBounds (valuesOf table) → table .leads ≤ 12
-unfolding valuesOf
-few-leads table b = b .leadsMost
+-- the counts of a plan: at most 64 × 13 lines
+module _ (bytes : List ℕ) (plan : Plan) (p : PlanFits bytes plan) where
+  pub few-elements : plan .elements ≤ 64
+  few-elements = omega (arith, p .elements, p .table .bounds .elementsMost)
 
--- an accepted table has at most 64 × 13 lines
-pub lines-few : (table : Table) → TableBounds (valuesOf table) → table .elements * (table .leads + 1) ≤ 832
-lines-few table b = few-figures (table .elements) (table .leads + 1) (few-elements table b) (omega (arith, few-leads table b))
+  pub few-leads : plan .leads + 1 ≤ 13
+  few-leads = omega (arith, p .leads, p .table .bounds .leadsMost)
+
+  pub lines-few : plan .elements * (plan .leads + 1) ≤ 832
+  lines-few = few-figures (plan .elements) (plan .leads + 1) few-elements few-leads
+
+  -- and its lines are those of the table
+  pub plan-lines :
+      (steps : ℕ) (numbers : List ℕ) {before after : List ℕ} {at end : ℕ}
+      → Put before at (answerLines steps (plan .leads + 1) numbers (plan .elements)) after end
+      → Put before at (answerLines steps (tableIn bytes .leads + 1) numbers (tableIn bytes .elements)) after end
+  plan-lines steps numbers h = put-same (rw (p .leads, p .elements)) h
+
+  pub plan-figures :
+      (numbers : List ℕ)
+      → FiguresUnderCeiling numbers (4 * (tableIn bytes .elements * (tableIn bytes .leads + 1)))
+      → FiguresUnderCeiling numbers (4 * (plan .elements * (plan .leads + 1)))
+  plan-figures numbers h = rw (p .leads, p .elements) h
 
 -- a record on the bytes of an accepted table is one on what they say
 pub record-on :

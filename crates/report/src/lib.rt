@@ -4,7 +4,7 @@ ghost use Prim.Native.Nat.{_+_, _≤_};
 ghost use lib.Dec.{leb};
 ghost use lib.ListN.{length};
 ghost use Rattle.refusal.specs.Refusals.{number};
-ghost use Rattle.table.specs.InUse.{valuesOf};
+ghost use Rattle.table.specs.InUse.{tableIn};
 ghost use Rattle.plan.specs.Plans.{PlanFits};
 ghost use Rattle.state.specs.Rules.{stateFits};
 ghost use Rattle.lines.specs.Printed.{refusalLine};
@@ -49,26 +49,26 @@ fn answer_refusal(refusal: Refusal, steps: u64, out: &mut [u8], at: usize) -> Te
 
 // The forecast after an accepted step, which rule 8 never refuses: its lines, or its refusal's.
 fn answer_forecast(
+    table: &[u8],
     plan: Plan,
     state: State,
     numbers: &mut [u64],
     out: &mut [u8],
     at: usize,
 ) -> TextAnswer
-    requires { ⌜ PlanFits plan × ((stateFits (valuesOf (plan .table)) state ≡ true) × ((length (now numbers) ≡ 3328) × (at + 122304 ≤ length (now out)))) ⌝ }
-    ensures { λ r. ⌜ ToldOf r (now (out .entry)) at (now (out .exit)) (forecastPrinted (valuesOf (plan .table)) state (forecastOnAnswer (valuesOf (plan .table)) state 3328)) ⌝ }
+    requires { ⌜ PlanFits (now table) plan × ((stateFits (tableIn (now table)) state ≡ true) × ((length (now numbers) ≡ 3328) × (at + 122304 ≤ length (now out)))) ⌝ }
+    ensures { λ r. ⌜ ToldOf r (now (out .entry)) at (now (out .exit)) (forecastPrinted (tableIn (now (table .entry))) state (forecastOnAnswer (tableIn (now (table .entry))) state 3328)) ⌝ }
 {
-    let answer = leads::forecast_in(plan, state, &mut *numbers);
+    let answer = leads::forecast_in(table, plan, state, &mut *numbers);
     match answer {
         ForecastAnswer::Accepted(_) => {
-            let leads = plan.table.leads;
             let end = put_lines(
                 &mut *out,
                 at,
                 &*numbers,
                 state.steps,
-                plan.table.elements,
-                leads + 1,
+                plan.elements,
+                plan.leads + 1,
             );
             TextAnswer { end, ended: false }
         }
@@ -76,9 +76,10 @@ fn answer_forecast(
     }
 }
 
-// A record on a plan and a state that rule 8 accepts: what it prints is put at a place of lent space; the numbers are lent for its
+// A record on an accepted table, its plan and a state that rule 8 accepts: what it prints is put at a place of lent space; the numbers are lent for its
 // forecast.
 fn answer_record(
+    table: &[u8],
     plan: Plan,
     bytes: &[u8],
     state: State,
@@ -86,14 +87,14 @@ fn answer_record(
     out: &mut [u8],
     at: usize,
 ) -> RecordAnswer
-    requires { ⌜ PlanFits plan × ((stateFits (valuesOf (plan .table)) state ≡ true) × ((length (now numbers) ≡ 3328) × (at + 122304 ≤ length (now out)))) ⌝ }
-    ensures { λ r. ⌜ Reported r (now (out .entry)) at (now (out .exit)) (recordOnPrinted (valuesOf (plan .table)) (now (bytes .entry)) state) ⌝ }
+    requires { ⌜ PlanFits (now table) plan × ((stateFits (tableIn (now table)) state ≡ true) × ((length (now numbers) ≡ 3328) × (at + 122304 ≤ length (now out)))) ⌝ }
+    ensures { λ r. ⌜ Reported r (now (out .entry)) at (now (out .exit)) (recordOnPrinted (tableIn (now (table .entry))) (now (bytes .entry)) state) ⌝ }
 {
-    let answer = engine::step_from(plan, bytes, state);
+    let answer = engine::step_from(table, plan, bytes, state);
     let next = answer.state;
     let verdict = answer.verdict;
     let told = match verdict {
-        Verdict::Accepted => answer_forecast(plan, next, &mut *numbers, &mut *out, at),
+        Verdict::Accepted => answer_forecast(table, plan, next, &mut *numbers, &mut *out, at),
         Verdict::Refused(refusal) => answer_refusal(refusal, next.steps, &mut *out, at),
     };
     RecordAnswer {
@@ -118,6 +119,7 @@ pub fn record_length(rest: &[u8]) -> usize
 
 // The first record of the input that is left.
 pub fn answer_next(
+    table: &[u8],
     plan: Plan,
     rest: &[u8],
     state: State,
@@ -125,9 +127,17 @@ pub fn answer_next(
     out: &mut [u8],
     at: usize,
 ) -> RecordAnswer
-    requires { ⌜ PlanFits plan × ((stateFits (valuesOf (plan .table)) state ≡ true) × ((length (now numbers) ≡ 3328) × (at + 122304 ≤ length (now out)))) ⌝ }
-    ensures { λ r. ⌜ Reported r (now (out .entry)) at (now (out .exit)) (recordOnPrinted (valuesOf (plan .table)) (recordBytes (now (rest .entry))) state) ⌝ }
+    requires { ⌜ PlanFits (now table) plan × ((stateFits (tableIn (now table)) state ≡ true) × ((length (now numbers) ≡ 3328) × (at + 122304 ≤ length (now out)))) ⌝ }
+    ensures { λ r. ⌜ Reported r (now (out .entry)) at (now (out .exit)) (recordOnPrinted (tableIn (now (table .entry))) (recordBytes (now (rest .entry))) state) ⌝ }
 {
     let length = record_length(rest);
-    answer_record(plan, &rest[..length], state, &mut *numbers, &mut *out, at)
+    answer_record(
+        table,
+        plan,
+        &rest[..length],
+        state,
+        &mut *numbers,
+        &mut *out,
+        at,
+    )
 }

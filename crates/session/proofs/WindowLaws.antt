@@ -7,8 +7,7 @@ use native.Mathlib.Nat.{add-comm}
 use native.Mathlib.Numerals.{add-one}
 use native.Mathlib.Omega.{arith}
 use Rattle.session.specs.declared.Window.{Window}
-use Rattle.session.specs.declared.Session.{Session}
-use Rattle.session.specs.Windows.{Within, Kept, SessionFits}
+use Rattle.session.specs.Windows.{Within, Kept}
 use lib.ListN.{length, take, drop, set, getD, length-take, length-drop}
 use lib.Seq.{take-take, take-suc, take-suc-set, drop-set-lt, drop-drop, getD-drop}
 
@@ -41,13 +40,6 @@ module _ (before now : List ℕ) (from i : ℕ)
 
 pub mid-short : (a k : ℕ) (l : List ℕ) → length (take k (drop a l)) ≤ length l - a
 mid-short a k l = rw (length-take, length-drop) (omega arith)
-
--- the first bytes of a list
-pub short-part : (n : ℕ) (l : List ℕ) → n ≤ length l → length (take n l) ≤ n
-short-part n l h = rw length-take (omega arith)
-
-pub session-as : {s : Session} {n m : ℕ} → SessionFits s n → n ≡ m → SessionFits s m
-session-as {s} h e = subst (SessionFits s) e h
 
 pub part-short : (from have : ℕ) (l : List ℕ) → length (take (have - from) (drop from l)) ≤ have - from
 part-short from have l = rw length-take (omega arith)

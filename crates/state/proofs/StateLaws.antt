@@ -10,11 +10,11 @@ use native.Mathlib.Numerals.{add-one}
 use lib.Dec.{leb, eqb}
 use lib.ListN.{length, getD, set, length-set}
 use lib.Seq.{getD-set-same, getD-set-other}
-use Rattle.table.proofs.HeldLaws.{element-held}
-use Rattle.table.specs.declared.Table.{Table}
+use Rattle.table.proofs.InUseLaws.{element-read}
 use Rattle.fields.specs.Ranges.{allBelow}
-use Rattle.elements.specs.Elements.{noElement}
-use Rattle.table.specs.InUse.{valuesOf}
+use Rattle.elements.specs.declared.Element.{Element}
+use Rattle.elements.specs.Elements.{elementAt}
+use Rattle.table.specs.InUse.{tableIn}
 use Rattle.state.specs.declared.ElementState.{ElementState}
 use Rattle.state.specs.declared.State.{State}
 use Rattle.state.specs.States.{noPlace, placeOf, filled}
@@ -54,42 +54,46 @@ module _ (f : ℕ → ElementState) (places : List ElementState) where
       getD-set-other (filled f n places) n i (f n) noPlace (λ e. omega arith) ∙ filled-later n i (omega arith)
 
 -- the place of element i at the start, from places of which those before i are filled
-pub first-place-at :
-    (table : Table) (s : State) (f : ℕ → ElementState) (places : List ElementState) (i : ℕ) (x : ElementState)
-    → i < table .elements
-    → places ≡ filled f i (s .element)
-    → x ≡ firstPlace (getD (table .element) i noElement) (getD places i noPlace)
-    → x ≡ firstPlace (valuesOf table .element i) (placeOf s i)
-unfolding placeOf
-first-place-at table s f places i x l k h = rw (element-held table i l, ← filled-later f (s .element) i i (omega arith), ← k) h
+module _ (table : List ℕ) (s : State) where
+  pub first-place-at :
+      (f : ℕ → ElementState) (places : List ElementState) (i : ℕ) {e : Element} {x : ElementState}
+      → i < tableIn table .elements
+      → places ≡ filled f i (s .element)
+      → e ≡ elementAt table i
+      → x ≡ firstPlace e (getD places i noPlace)
+      → x ≡ firstPlace (tableIn table .element i) (placeOf s i)
+  unfolding placeOf
+  first-place-at f places i l k e h =
+      rw (element-read table i l, ← e, ← filled-later f (s .element) i i (omega arith), ← k) h
 
--- the loop of a start, done
-pub started-done :
-    (table : Table) (s : State) (i : ℕ) (places : List ElementState)
-    → i ≡ table .elements
-    → places ≡ filled (λ k. firstPlace (valuesOf table .element k) (placeOf s k)) i (s .element)
-    → record { elements = table .elements; steps = 0; element = places } ≡ started (valuesOf table) s
-unfolding started valuesOf
-started-done table s i places e h =
-    ap (λ (l : List ElementState). record { elements = table .elements; steps = 0; element = l })
-    (h ∙ ap (λ (k : ℕ). filled (λ j. firstPlace (valuesOf table .element j) (placeOf s j)) k (s .element)) e)
+  -- the loop of a start, done
+  pub started-done :
+      {n i : ℕ} (places : List ElementState)
+      → n ≡ tableIn table .elements
+      → i ≡ n
+      → places ≡ filled (λ k. firstPlace (tableIn table .element k) (placeOf s k)) i (s .element)
+      → record { elements = n; steps = 0; element = places } ≡ started (tableIn table) s
+  unfolding started
+  started-done places e k h = rw (h, k, e)
 
--- rule 8 on the place of element k
-unfoldable pub placeTest : Table → State → ℕ → Bool
-placeTest table s k = placeFits (valuesOf table .element k .kind) (placeOf s k)
+  -- rule 8 on the place of element k
+  unfoldable pub placeTest : ℕ → Bool
+  placeTest k = placeFits (tableIn table .element k .kind) (placeOf s k)
 
-pub place-tested :
-    (table : Table) (s : State) (i : ℕ) (one : Bool)
-    → i < table .elements
-    → one ≡ placeFits (getD (table .element) i noElement .kind) (getD (s .element) i noPlace)
-    → one ≡ placeTest table s i
-unfolding placeTest placeOf
-place-tested table s i one l h = rw (element-held table i l) h
+  pub place-tested :
+      (i : ℕ) {kind : ℕ} {one : Bool}
+      → i < tableIn table .elements
+      → kind ≡ elementAt table i .kind
+      → one ≡ placeFits kind (getD (s .element) i noPlace)
+      → one ≡ placeTest i
+  unfolding placeTest placeOf
+  place-tested i l k h = rw (element-read table i l, ← k) h
 
--- rule 8, from its parts
-pub state-tested :
-    (table : Table) (s : State) (fit : Bool)
-    → fit ≡ allBelow (λ i. placeFits (valuesOf table .element i .kind) (placeOf s i)) (table .elements)
-    → ((eqb (s .elements) (table .elements) && leb (s .steps) 10000) && fit) ≡ stateFits (valuesOf table) s
-unfolding stateFits valuesOf
-state-tested table s fit h = rw h
+  -- rule 8, from its parts
+  pub state-tested :
+      {n : ℕ} {fit : Bool}
+      → n ≡ tableIn table .elements
+      → fit ≡ allBelow (λ i. placeFits (tableIn table .element i .kind) (placeOf s i)) (tableIn table .elements)
+      → ((eqb (s .elements) n && leb (s .steps) 10000) && fit) ≡ stateFits (tableIn table) s
+  unfolding stateFits
+  state-tested e h = rw (e, h)

@@ -1,62 +1,91 @@
--- Laws of an accepted table as the code holds it.
+-- Laws of an accepted table that is read where it stands.
 use Prim.{Unit}
-use Prim.Native.Nat.{ℕ, _≤_, _<_}
+use Prim.Native.Nat.{ℕ, _+_, _*_, _≤_, _<_}
+use mathlib.Core.Bool.{true}
 use mathlib.Core.List.{List}
 use mathlib.Core.Path.{_≡_, sym, ap, _∙_}
-use lib.ListN.{getD}
+use borrow.Author.Tests.{leb-true, eqb-true}
+use native.Mathlib.Omega.{arith}
+use lib.Dec.{leb, eqb}
+use lib.ListN.{length}
 use Rattle.refusal.specs.Refusals.{number}
 use Rattle.refusal.specs.Answers.{accepted, refused}
 use Rattle.refusal.specs.declared.Refusal.{Refusal}
-use Rattle.table.specs.declared.Table.{Table}
+use Rattle.fields.specs.Bytes.{number32}
+use Rattle.fields.proofs.RangeLaws.{both}
+use Rattle.elements.specs.Elements.{elementAt}
+use Rattle.elements.specs.Bounds.{ElementBounds}
+use Rattle.table.specs.declared.Counts.{Counts}
 use Rattle.table.specs.declared.TableAnswer.{TableAnswer}
 use Rattle.table.specs.declared.Verdict.the-variants.{Accepted, Refused}
-use Rattle.elements.specs.Elements.{noElement}
 use Rattle.table.specs.Verdicts.{verdictAnswer}
 use Rattle.table.specs.Tables.{tableOf}
-use Rattle.table.specs.Rules.{tableRules}
-use Rattle.table.specs.Decoded.{TableRead}
-use Rattle.elements.specs.Bounds.{ElementBounds}
-use Rattle.table.specs.Bounds.{TableBounds}
-use Rattle.table.specs.InUse.{inUse, tableIn, valuesOf}
-use Rattle.table.proofs.InUseLaws.{below-used, values-held, bounds-in-use}
-use Rattle.table.proofs.TableLaws.{table-bounds}
+use Rattle.table.specs.Rules.{lengthFits, sizeFits, tableRules}
+use Rattle.table.specs.Decoded.{CountsHeld, TableRead}
+use Rattle.table.specs.Bounds.{AcceptedTable}
+use Rattle.table.specs.InUse.{inUse, tableIn}
+use Rattle.table.proofs.InUseLaws.{element-read, bounds-in-use}
+use Rattle.table.proofs.TableLaws.{rules-kept, table-bounds}
 
--- an element in use is what the array holds
-pub element-held :
-    (table : Table) (i : ℕ) → i < table .elements → valuesOf table .element i ≡ getD (table .element) i noElement
-unfolding valuesOf
-element-held table i l = below-used (table .elements) noElement _ i l
+-- rules 1 and 4 together: the bytes are those of N elements and M gauges
+module _ (bytes : List ℕ) where
+  length-known : lengthFits bytes ≡ true → (10 ≤ length bytes) × (number32 bytes 0 + 4 ≡ length bytes)
+  unfolding lengthFits
+  length-known h =
+      let k = both (leb 10 (length bytes)) (eqb (number32 bytes 0 + 4) (length bytes)) h in
+      (leb-true _ _ (k .0), eqb-true _ _ (k .1))
 
--- the bounds of an accepted table, as the code holds it
-module _ (table : Table) (b : TableBounds (valuesOf table)) where
-  pub few-elements : table .elements ≤ 64
-  unfolding valuesOf
-  few-elements = b .elementsMost
+  -- rule 1 leaves the header whole
+  pub header-whole : lengthFits bytes ≡ true → 10 ≤ length bytes
+  header-whole h = length-known h .0
 
-  bounds-used : (i : ℕ) → i < table .elements → ElementBounds (table .step) (table .elements) i (valuesOf table .element i)
-  unfolding valuesOf
-  bounds-used i l = b .element i l
+  pub all-there :
+      lengthFits bytes ≡ true
+      → sizeFits bytes (tableOf bytes) ≡ true
+      → 26 * tableOf bytes .elements + 46 * tableOf bytes .gauges + 10 ≤ length bytes
+  unfolding sizeFits
+  all-there h k =
+      let size = eqb-true (number32 bytes 0) (6 + 26 * tableOf bytes .elements + 46 * tableOf bytes .gauges) k in
+      omega (arith, length-known h .1)
+
+  pub accepted-table : tableRules {A = Unit} bytes (accepted tt) ≡ accepted tt → AcceptedTable bytes
+  unfolding tableIn inUse
+  accepted-table h =
+      let k = rules-kept bytes h .header in
+      record { bounds = bounds-in-use _ (table-bounds bytes h); whole = all-there (k .length) (k .size) }
+
+-- an element and a gauge in use: all their bytes are there, and they are in their ranges
+module _ (bytes : List ℕ) (t : AcceptedTable bytes) where
+  pub element-there : {i : ℕ} → i < tableIn bytes .elements → (i ≤ 255) × (26 * i + 36 ≤ length bytes)
+  element-there l = (omega (arith, t .bounds .elementsMost), omega (arith, t .whole))
+
+  pub gauge-there :
+      {g : ℕ}
+      → g < tableIn bytes .gauges
+      → ((tableIn bytes .elements ≤ 64) × (g ≤ 64)) × (26 * tableIn bytes .elements + 46 * g + 56 ≤ length bytes)
+  gauge-there l = ((t .bounds .elementsMost, omega (arith, t .bounds .gaugesMost)), omega (arith, t .whole))
 
   pub element-bounds :
-      (i : ℕ) → i < table .elements → ElementBounds (table .step) (table .elements) i (getD (table .element) i noElement)
-  element-bounds i l = rw (← element-held table i l) (bounds-used i l)
+      {i : ℕ} → i < tableIn bytes .elements → ElementBounds (tableIn bytes .step) (tableIn bytes .elements) i (elementAt bytes i)
+  element-bounds {i} l = rw (element-read bytes i l) at (t .bounds .element i l)
 
 -- what an accepted table gives
-pub record TableKnown (bytes : List ℕ) (table : Table) : Type 0 where
+pub record TableKnown (bytes : List ℕ) (read : Counts) : Type 0 where
   pub kept : tableRules {A = Unit} bytes (accepted tt) ≡ accepted tt
-  pub values : valuesOf table ≡ tableIn bytes
-  pub bounds : TableBounds (valuesOf table)
+  pub table : AcceptedTable bytes
+  pub counts : CountsHeld read (tableIn bytes)
 
 module _ (bytes : List ℕ) (r : TableAnswer) (h : TableRead bytes r) where
-  pub table-accepted : r .verdict ≡ Accepted → TableKnown bytes (r .table)
-  unfolding tableIn
-  table-accepted e = record { kept = kept; values = held; bounds = rw held (bounds-in-use _ (table-bounds bytes kept)) }
-    where
-      kept : tableRules {A = Unit} bytes (accepted tt) ≡ accepted tt
-      kept = sym (h .verdict) ∙ ap verdictAnswer e
-
-      held : valuesOf (r .table) ≡ inUse (tableOf bytes)
-      held = values-held (r .table) (tableOf bytes) (h .table kept)
+  pub table-accepted : r .verdict ≡ Accepted → TableKnown bytes (r .counts)
+  unfolding tableIn inUse
+  table-accepted e =
+      let kept = sym (h .verdict) ∙ ap verdictAnswer e in
+      let held = h .counts kept in
+      record {
+        kept = kept;
+        table = accepted-table bytes kept;
+        counts = record { step = held .step; leads = held .leads; elements = held .elements; gauges = held .gauges };
+      }
 
   pub table-refused : {k : Refusal} → r .verdict ≡ Refused k → tableRules {A = Unit} bytes (accepted tt) ≡ refused (number k)
   table-refused e = sym (h .verdict) ∙ ap verdictAnswer e

@@ -1,19 +1,17 @@
 -- Laws of the places in use.
 use Prim.Native.Nat.{ℕ, _≤_, _<_}
+use mathlib.Core.List.{List}
 use mathlib.Core.Bool.{Bool, true, false, cond}
 use mathlib.Core.Path.{_≡_, refl, sym, fun-ext}
 use borrow.Author.Tests.{lt-ltb, ltb-true}
 use lib.Dec.{ltb}
-use lib.ListN.{getD}
-use Rattle.elements.specs.Elements.{noElement}
+use Rattle.elements.specs.Elements.{elementAt, noElement}
 use Rattle.elements.specs.Bounds.{ElementBounds}
-use Rattle.gauges.specs.Gauges.{noGauge}
+use Rattle.gauges.specs.Gauges.{gaugeAt, noGauge}
 use Rattle.gauges.specs.Bounds.{GaugeBounds}
-use Rattle.table.specs.declared.Table.{Table}
-use Rattle.table.specs.Tables.{TableValues}
-use Rattle.table.specs.Decoded.{Holds}
+use Rattle.table.specs.Tables.{TableValues, tableOf}
 use Rattle.table.specs.Bounds.{TableBounds}
-use Rattle.table.specs.InUse.{below, inUse, valuesOf}
+use Rattle.table.specs.InUse.{below, inUse, tableIn}
 
 module _ {A : Type 0} (n : ℕ) (none : A) where
   -- a place in use
@@ -30,18 +28,15 @@ module _ {A : Type 0} (n : ℕ) (none : A) where
       go i true e = rw e (h i (ltb-true i n e))
       go i false e = rw e
 
--- the code's table and the bytes' say the same
-pub values-held : (table : Table) (t : TableValues) → Holds table t → valuesOf table ≡ inUse t
-unfolding valuesOf inUse
-values-held table t h =
-    rw (
-      h .step,
-      h .leads,
-      h .elements,
-      h .gauges,
-      below-same _ noElement _ _ (λ i l. h .element .at i l),
-      below-same _ noGauge _ _ (λ g l. h .gauge .at g l),
-    )
+-- an element and a gauge in use are those of the bytes
+module _ (bytes : List ℕ) where
+  pub element-read : (i : ℕ) → i < tableIn bytes .elements → tableIn bytes .element i ≡ elementAt bytes i
+  unfolding tableIn inUse tableOf
+  element-read i l = below-used _ noElement _ i l
+
+  pub gauge-read : (g : ℕ) → g < tableIn bytes .gauges → tableIn bytes .gauge g ≡ gaugeAt bytes (tableIn bytes .elements) g
+  unfolding tableIn inUse tableOf
+  gauge-read g l = below-used _ noGauge _ g l
 
 pub bounds-in-use : (t : TableValues) → TableBounds t → TableBounds (inUse t)
 unfolding inUse

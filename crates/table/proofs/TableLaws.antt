@@ -113,14 +113,6 @@ table-bounds bytes h =
 
 -- the fields of the header that the code reads
 module _ (bytes : List ℕ) where
-  pub elements-read : byteAt bytes 8 ≡ tableOf bytes .elements
-  unfolding tableOf
-  elements-read = refl
-
-  pub gauges-read : byteAt bytes 9 ≡ tableOf bytes .gauges
-  unfolding tableOf
-  gauges-read = refl
-
   -- rule 5 on the elements at the step and the count that were read
   pub elements-judged :
       {step n : ℕ} {fit : Bool}

@@ -1,8 +1,11 @@
 -- What callers may rely on once rules 1 to 7 accept a table.
-use Prim.Native.Nat.{ℕ, _≤_, _<_}
+use Prim.Native.Nat.{ℕ, _+_, _*_, _≤_, _<_}
+use mathlib.Core.List.{List}
+use lib.ListN.{length}
 use Rattle.elements.specs.Bounds.{ElementBounds}
 use Rattle.gauges.specs.Bounds.{GaugeBounds}
 use Rattle.table.specs.Tables.{TableValues}
+use Rattle.table.specs.InUse.{tableIn}
 
 pub record TableBounds (t : TableValues) : Type 0 where
   pub stepLeast : 1 ≤ t .step
@@ -13,3 +16,8 @@ pub record TableBounds (t : TableValues) : Type 0 where
   pub gaugesMost : t .gauges ≤ 16
   pub element : (i : ℕ) → i < t .elements → ElementBounds (t .step) (t .elements) i (t .element i)
   pub gauge : (g : ℕ) → g < t .gauges → GaugeBounds (t .elements) (t .gauge g)
+
+-- the bytes of an accepted table: its values in their ranges, and all its elements and gauges there
+pub record AcceptedTable (bytes : List ℕ) : Type 0 where
+  pub bounds : TableBounds (tableIn bytes)
+  pub whole : 26 * tableIn bytes .elements + 46 * tableIn bytes .gauges + 10 ≤ length bytes

@@ -3,10 +3,8 @@ use Prim.Native.Nat.{ℕ}
 use mathlib.Core.Bool.{cond}
 use mathlib.Core.List.{List}
 use lib.Dec.{ltb}
-use lib.ListN.{getD}
 use Rattle.elements.specs.Elements.{noElement}
 use Rattle.gauges.specs.Gauges.{noGauge}
-use Rattle.table.specs.declared.Table.{Table}
 use Rattle.table.specs.Tables.{TableValues, tableOf}
 
 -- a function below n, and a default from n on
@@ -27,15 +25,3 @@ inUse t =
 -- what a table's bytes say of the places in use
 unfoldable pub tableIn : List ℕ → TableValues
 tableIn bytes = inUse (tableOf bytes)
-
--- what the code's table says
-unfoldable pub valuesOf : Table → TableValues
-valuesOf table =
-    record {
-      step = table .step;
-      leads = table .leads;
-      elements = table .elements;
-      gauges = table .gauges;
-      element = below (table .elements) noElement (λ i. getD (table .element) i noElement);
-      gauge = below (table .gauges) noGauge (λ g. getD (table .gauge) g noGauge);
-    }

@@ -1,13 +1,14 @@
 // A table, and its header: rules 1 to 4.
 ghost use mathlib.Core.Path.{_≡_};
+ghost use Prim.Native.Nat.{_≤_};
+ghost use lib.ListN.{length};
 ghost use Rattle.table.specs.Tables.{tableOf};
 ghost use Rattle.table.specs.Rules.{lengthFits, versionFits, countsFit, sizeFits};
-use elements::Element;
-use fields::bytes::byte;
-use fields::bytes::read16;
-use fields::bytes::read32;
+ghost use Rattle.table.specs.Decoded.{CountsHeld};
+use fields::bytes::whole16;
+use fields::bytes::whole32;
+use fields::bytes::wide;
 use fields::range::in_range;
-use gauges::Gauge;
 use refusal::Refusal;
 
 // Whether a call's input is accepted.
@@ -16,20 +17,18 @@ pub enum Verdict {
     Refused(Refusal),
 }
 
-// A table, decoded: its first N elements and its first M gauges are in use.
-pub struct Table {
+// The counts of a table: T in minutes, L, N and M.
+pub struct Counts {
     pub step: u64,
     pub leads: usize,
     pub elements: usize,
     pub gauges: usize,
-    pub element: [Element; 64],
-    pub gauge: [Gauge; 16],
 }
 
-// The table, where its bytes are accepted.
+// The counts of a table, where its bytes are accepted.
 pub struct TableAnswer {
     pub verdict: Verdict,
-    pub table: Table,
+    pub counts: Counts,
 }
 
 // Rule 1: the length field counts the bytes after it, and the header is whole.
@@ -37,29 +36,48 @@ pub fn length_fits(table: &[u8]) -> bool
     ensures { λ r. ⌜ r ≡ lengthFits (now (table .entry)) ⌝ }
 {
     let bytes = table.len();
-    (10 <= bytes) & (read32(table, 0) as usize + 4 == bytes)
+    if bytes < 10 {
+        return false;
+    }
+    whole32(table, 0) as usize + 4 == bytes
 }
 
 // Rule 2.
 pub fn version_fits(table: &[u8]) -> bool
+    requires { ⌜ 10 ≤ length (now table) ⌝ }
     ensures { λ r. ⌜ r ≡ versionFits (now (table .entry)) ⌝ }
 {
-    byte(table, 4) == 1
+    wide(table[4]) == 1
 }
 
 // Rule 3: the ranges of T, L, N and M.
 pub fn counts_fit(table: &[u8]) -> bool
+    requires { ⌜ 10 ≤ length (now table) ⌝ }
     ensures { λ r. ⌜ r ≡ countsFit (tableOf (now (table .entry))) ⌝ }
 {
-    in_range(read16(table, 5), 1, 1_440)
-        & in_range(byte(table, 7), 1, 12)
-        & in_range(byte(table, 8), 1, 64)
-        & in_range(byte(table, 9), 0, 16)
+    in_range(whole16(table, 5), 1, 1_440)
+        & in_range(wide(table[7]), 1, 12)
+        & in_range(wide(table[8]), 1, 64)
+        & in_range(wide(table[9]), 0, 16)
 }
 
 // Rule 4: the length field is that of N elements and M gauges.
 pub fn size_fits(table: &[u8]) -> bool
+    requires { ⌜ 10 ≤ length (now table) ⌝ }
     ensures { λ r. ⌜ r ≡ sizeFits (now (table .entry)) (tableOf (now (table .entry))) ⌝ }
 {
-    read32(table, 0) == 6 + 26 * byte(table, 8) + 46 * byte(table, 9)
+    whole32(table, 0) == 6 + 26 * wide(table[8]) + 46 * wide(table[9])
+}
+
+// The counts that the header says.
+pub fn counts_of(table: &[u8]) -> Counts
+    requires { ⌜ 10 ≤ length (now table) ⌝ }
+    ensures { λ r. ⌜ CountsHeld r (tableOf (now (table .entry))) ⌝ }
+{
+    Counts {
+        step: whole16(table, 5),
+        leads: wide(table[7]) as usize,
+        elements: wide(table[8]) as usize,
+        gauges: wide(table[9]) as usize,
+    }
 }

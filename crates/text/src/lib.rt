@@ -42,7 +42,7 @@ pub fn digit_pairs() -> [u16; 100]
 }
 
 // Two digits, put at a place.
-pub fn put_pair(out: &mut [u8], at: usize, v: u64, pairs: &[u16])
+pub fn put_pair(out: &mut [u8], at: usize, v: u32, pairs: &[u16])
     requires { ⌜ (v < 100) × ((at + 2 ≤ length (now out)) × (now pairs ≡ pairsBelow 100)) ⌝ }
     ensures { λ r. ⌜ Put (now (out .entry)) at (lastDigits 2 v) (now (out .exit)) (at + 2) ⌝ }
 {
@@ -52,7 +52,7 @@ pub fn put_pair(out: &mut [u8], at: usize, v: u64, pairs: &[u16])
 }
 
 // A number of one or two digits and then one byte, put at a place; the place after them.
-pub fn put_small(out: &mut [u8], at: usize, x: u64, after: u8, pairs: &[u16]) -> usize
+pub fn put_small(out: &mut [u8], at: usize, x: u32, after: u8, pairs: &[u16]) -> usize
     requires { ⌜ (x < 100) × ((at + 3 ≤ length (now out)) × (now pairs ≡ pairsBelow 100)) ⌝ }
     ensures { λ r. ⌜ Put (now (out .entry)) at (decimal x ++ after ∷ []) (now (out .exit)) r × (r ≤ at + 3) ⌝ }
 {
@@ -67,7 +67,7 @@ pub fn put_small(out: &mut [u8], at: usize, x: u64, after: u8, pairs: &[u16]) ->
 }
 
 // Four digits, put at a place.
-pub fn put_four(out: &mut [u8], at: usize, v: u64, pairs: &[u16])
+pub fn put_four(out: &mut [u8], at: usize, v: u32, pairs: &[u16])
     requires { ⌜ (v < 10000) × ((at + 4 ≤ length (now out)) × (now pairs ≡ pairsBelow 100)) ⌝ }
     ensures { λ r. ⌜ Put (now (out .entry)) at (lastDigits 4 v) (now (out .exit)) (at + 4) ⌝ }
 {

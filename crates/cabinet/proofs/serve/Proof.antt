@@ -3,10 +3,10 @@ use Prim.Native.Nat.{_-_, _≤_}
 use mathlib.Core.Bool.{true}
 use mathlib.Core.Logic.{⊎-elim}
 use mathlib.Core.Path.{_≡_, refl, sym, ap, subst, _∙_}
-use native.Mathlib.Omega.{arith}
 use borrow.Author.Needs.{needs}
+use native.Mathlib.Omega.{arith}
 use lib.ListN.{length}
-use Rattle.table.specs.InUse.{valuesOf}
+use Rattle.table.specs.InUse.{tableIn}
 use Rattle.state.specs.Rules.{stateFits}
 use Rattle.report.proofs.ReportLaws.{record-fits}
 use Rattle.session.specs.Windows.{Within, SessionFits}
@@ -15,23 +15,40 @@ use Rattle.cabinet.proofs.serve.Statement.{statement}
 use Rattle.cabinet.proofs.serve.Tie as tie
 
 abbrev Inv-loop : tie.InvT-loop
-Inv-loop plan input₀ numbers₀ out₀ state₀ session₀ count₀ input numbers out state session count =
+Inv-loop table plan input₀ numbers₀ out₀ state₀ session₀ count₀ input numbers out state session count =
     (count ≤ 100000)
     × (SessionFits session (length input)
-    × ((length input ≡ length input₀) × ((length numbers ≡ length numbers₀)
-    × ((length out ≡ length out₀) × (stateFits (valuesOf (plan .table)) state ≡ true)))))
+    × ((length input ≡ length input₀)
+    × ((length numbers ≡ length numbers₀)
+    × ((length out ≡ length out₀) × (stateFits (tableIn table) state ≡ true)))))
 
 abbrev μ-loop : tie.MeasureT-loop
-μ-loop plan input₀ numbers₀ out₀ state₀ session₀ count₀ input numbers out state session count = 100000 - count
+μ-loop table plan input₀ numbers₀ out₀ state₀ session₀ count₀ input numbers out state session count = 100000 - count
+
+first-session-requires : tie.Need-first-session-requires Inv-loop μ-loop
+first-session-requires c κs = search needs
 
 loop-holds : tie.Need-loop-holds Inv-loop μ-loop
-loop-holds c = (omega arith, (c .before .before .before .pre .1 .0, (refl, (refl, (refl, c .before .before .before .pre .1 .1 .1 .1)))))
+loop-holds c =
+    let s = c .before .before .before .before .before in
+    let first = c .first-session .ensures in (
+      omega arith,
+      (
+        record {
+          window = record { order = first .window .order; inside = omega (arith, first .window .inside) };
+          text = first .text;
+        },
+        (refl, (refl, (refl, s .pre .1 .1 .1))),
+      ),
+    )
+
+abbrev start : tie.At-loop Inv-loop μ-loop → tie.Start Inv-loop μ-loop
+start c = c .before .before .before .before .before .before
 
 ready-requires : tie.Need-ready-requires Inv-loop μ-loop
 ready-requires c κs =
-    let l = c .before .before .before .before in
-    let s = l .before .before .before .before in
-    (l .loop .inv .1 .0, l .loop .inv .1 .1 .1 .1 .0 ∙ s .pre .1 .1 .1 .0)
+    let l = c .before .before .before in
+    (l .loop .inv .1 .0, l .loop .inv .1 .1 .1 .1 .0 ∙ start l .pre .1 .1 .0)
 
 -- the input that is ready lies within the buffer
 window-kept :
@@ -47,7 +64,7 @@ module _ (c : tie.After-after-record Inv-loop μ-loop) where
   counted = c .before .before .before .before .before .before .before .before .before .before .before
 
   abbrev turn : tie.In-loop Inv-loop μ-loop
-  turn = counted .before .before .before .before .before .before .before .before .before .before .before
+  turn = counted .before .before .before .before .before .before .before .before .before .before
 
 sub-record-length : tie.Need-sub-record-length Inv-loop μ-loop
 sub-record-length c = window-kept c .order
@@ -74,14 +91,11 @@ answer-next-requires : tie.Need-answer-next-requires Inv-loop μ-loop
 answer-next-requires c κs =
     let w = c .before .before .before .before .before .before .before in
     let r = w .before .before .before .before in
-    let l = r .before .before .before .before .before in
-    let s = l .before .before .before .before in (
-      s .pre .0,
-      (
-        l .loop .inv .1 .1 .1 .1 .1,
-        (l .loop .inv .1 .1 .1 .0 ∙ s .pre .1 .1 .0, omega (arith, r .ready .ensures .1 .1 (w .before .if2 .left), l .loop .inv .1 .1 .1 .1 .0, s .pre .1 .1 .1 .0)),
-      ),
-    )
+    let l = r .before .before .before .before in
+    let inv = l .loop .inv .1 .1 .1 in
+    let p = start l .pre in
+    let at = r .ready .ensures .1 .1 (w .before .if1 .left) in
+    (p .0, (inv .1 .1, (inv .0 ∙ p .1 .0, omega (arith, at, inv .1 .0, p .1 .1 .0))))
 
 after-record-requires : tie.Need-after-record-requires Inv-loop μ-loop
 after-record-requires c κs =
@@ -105,20 +119,20 @@ loop-again c =
     let k = a .answer-next .kept in
     let e = c .after-record .ensures in
     let few = counted c .record-length .ensures .within in
-    let s = turn c .before .before .before .before .before in (
+    let s = start (turn c .before) in (
       omega (arith, turn c .loop-test .taken),
       (
         record {
           window = rw (e .0) (window-after _ _ _ _ _ (window-kept w) few);
-          text = rw (e .1) (omega (arith, a .answer-next .ensures .within, r .ready .ensures .1 .1 (w .before .if2 .left)));
+          text = rw (e .1) (omega (arith, a .answer-next .ensures .within, r .ready .ensures .1 .1 (w .before .if1 .left)));
         },
         (
           r .ready .kept .1 .0 ∙ l .inv .1 .1 .0,
           (
-            k .1 .1 .1 .0 ∙ l .inv .1 .1 .1 .0,
+            k .1 .1 .1 .1 .0 ∙ l .inv .1 .1 .1 .0,
             (
-              k .1 .1 .1 .1 .0 ∙ l .inv .1 .1 .1 .1 .0,
-              rw (a .answer-next .ensures .state) (record-fits _ _ _ (s .pre .0 .table) (l .inv .1 .1 .1 .1 .1)),
+              k .1 .1 .1 .1 .1 .0 ∙ l .inv .1 .1 .1 .1 .0,
+              rw (a .answer-next .ensures .state) (record-fits _ _ _ (s .pre .0 .table .bounds) (l .inv .1 .1 .1 .1 .1)),
             ),
           ),
         ),
@@ -129,20 +143,15 @@ write-out-requires : tie.Need-write-out-requires Inv-loop μ-loop
 write-out-requires c κs =
     let l = c .before .before in
     ⊎-elim
-    (λ w. omega (arith, ap (λ s. s .at) (w .2), l .loop .inv .1 .0 .text, l .loop .inv .1 .1 .1 .1 .0))
-    (⊎-elim
-    (λ w. omega (arith, ap (λ s. s .at) (w .3), l .loop .inv .1 .0 .text, l .loop .inv .1 .1 .1 .1 .0))
-    (λ w. omega (arith, ap (λ s. s .at) (w .9), w .4 .ensures .0 .text, l .loop .inv .1 .1 .1 .1 .0)))
+    (λ w. omega (arith, ap (λ s. s .at) (w .2), l .loop .inv .1 .0 .text, l .loop .inv .1 .1 .1 .1 .0, start l .pre .1 .1 .0))
+    (λ w. omega (arith, ap (λ s. s .at) (w .8), w .3 .ensures .0 .text, l .loop .inv .1 .1 .1 .1 .0, start l .pre .1 .1 .0))
     (c .before .loop-test .came)
 
 same-length : tie.Need-same-length Inv-loop μ-loop
 same-length c =
     let l = c .before .before .before in
-    ⊎-elim
-    (λ w. ap length (w .1) ∙ l .loop .inv .1 .1 .0)
-    (⊎-elim
-    (λ w. ap length (w .2) ∙ l .loop .inv .1 .1 .0)
-    (λ w. ap length (w .8) ∙ (w .4 .kept .1 .0 ∙ l .loop .inv .1 .1 .0)))
+    ⊎-elim (λ w. ap length (w .1) ∙ l .loop .inv .1 .1 .0)
+    (λ w. ap length (w .7) ∙ (w .3 .kept .1 .0 ∙ l .loop .inv .1 .1 .0))
     (c .before .before .loop-test .came)
 
 same-length-2 : tie.Need-same-length-2 Inv-loop μ-loop
@@ -160,6 +169,7 @@ serve-spec =
     (tie.spec
     Inv-loop
     μ-loop
+    first-session-requires
     loop-holds
     ready-requires
     sub-record-length

@@ -10,10 +10,10 @@ use Rattle.capi.proofs.plan_of.Tie as tie
 -- what an accepted table gives
 module _ (c : tie.Start) where
   few : c .args .elements ≤ 64
-  few = omega (arith, c .pre .1 .0, c .pre .0 .elementsMost)
+  few = omega (arith, c .pre .1 .0, c .pre .0 .bounds .elementsMost)
 
   short : c .args .leads + 1 ≤ 13
-  short = omega (arith, c .pre .1 .1 .0, c .pre .0 .leadsMost)
+  short = omega (arith, c .pre .1 .1 .0, c .pre .0 .bounds .leadsMost)
 
   most : 4 * c .args .elements * (c .args .leads + 1) ≤ 3328
   most = omega (arith, mul-le-mul few short)

@@ -1,7 +1,7 @@
 -- `river_prepare` meets its contract.
 use borrow.Author.Needs.{needs}
 use Rattle.table.proofs.HeldLaws.{table-accepted, table-refused}
-use Rattle.capi.proofs.ReplyLaws.{counts-known, plan-replied, plan-refused}
+use Rattle.capi.proofs.ReplyLaws.{plan-replied, plan-refused}
 use Rattle.capi.proofs.river_prepare.Statement.{statement}
 use Rattle.capi.proofs.river_prepare.Tie as tie
 
@@ -15,8 +15,7 @@ plan-of-requires : tie.Need-plan-of-requires
 plan-of-requires c κs =
     let e = c .before in
     let k = table-accepted _ _ (e .before .before .read .ensures) (e .enum-told .given .1) in
-    let n = counts-known _ _ (k .values) in
-    (rw (k .values) at (k .bounds), (n .elements, (n .leads, n .gauges)))
+    (k .table, (k .counts .elements, (k .counts .leads, k .counts .gauges)))
 
 enum-known-verdict : tie.Need-enum-known-verdict
 enum-known-verdict c = search needs
@@ -30,7 +29,7 @@ no-plan-requires c κs = search needs
 returns : tie.Need-returns
 returns c =
     let e = c .before .before in
-    plan-replied _ _ _ (table-accepted _ _ (e .before .before .read .ensures) (e .enum-told .given .1)) (c .plan-of .ensures)
+    plan-replied _ _ (table-accepted _ _ (e .before .before .read .ensures) (e .enum-told .given .1) .kept) (c .plan-of .ensures)
 
 returns-2 : tie.Need-returns-2
 returns-2 c =

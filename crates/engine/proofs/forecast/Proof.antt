@@ -30,7 +30,7 @@ returns c =
     let e = f .before .before in
     let p = e .before .before .prepare .ensures in
     let k = sym (p .verdict) ∙ ap verdictAnswer (e .enum-told .given .1) in
-    lent-table _ _ _ _ k (p .table k) (f .forecast-with .ensures)
+    lent-table _ _ _ k (f .forecast-with .ensures)
 
 returns-2 : tie.Need-returns-2
 returns-2 c =

@@ -2,13 +2,12 @@
 use borrow.Author.Needs.{needs}
 use borrow.Author.Tests.{not-true, not-false}
 use mathlib.Core.Path.{sym, _∙_}
-use Rattle.table.proofs.HeldLaws.{few-elements}
 use Rattle.engine.proofs.EntryLaws.{lent-refused, forecast-state-refused, forecast-state-kept, lent-as}
 use Rattle.engine.proofs.forecast_with.Statement.{statement}
 use Rattle.engine.proofs.forecast_with.Tie as tie
 
 state-fits-requires : tie.Need-state-fits-requires
-state-fits-requires c κs = few-elements _ (c .before .pre .table)
+state-fits-requires c κs = let p = c .before .before .pre in (p .table, p .elements)
 
 returns : tie.Need-returns
 returns c =
@@ -17,7 +16,7 @@ returns c =
 forecast-on-requires : tie.Need-forecast-on-requires
 forecast-on-requires c κs =
     let e = c .before in
-    (e .before .before .before .pre, sym (e .before .state-fits .ensures) ∙ not-false _ (e .if1 .left))
+    (e .before .before .before .before .pre, sym (e .before .state-fits .ensures) ∙ not-false _ (e .if1 .left))
 
 same-length : tie.Need-same-length
 same-length c = search needs

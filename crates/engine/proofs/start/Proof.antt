@@ -2,7 +2,6 @@
 use borrow.Author.Needs.{needs}
 use mathlib.Core.Path.{sym}
 use Rattle.engine.specs.Entries.{startAnswer}
-use Rattle.table.proofs.HeldLaws.{few-elements}
 use Rattle.table.proofs.HeldLaws.{table-accepted, table-refused}
 use Rattle.engine.proofs.EntryLaws.{start-accepted, refused-by-table}
 use Rattle.engine.proofs.start.Statement.{statement}
@@ -16,7 +15,7 @@ enum-told c = search needs
 
 start-on-requires : tie.Need-start-on-requires
 start-on-requires c κs =
-    few-elements _ (table-accepted _ _ (c .before .before .before .read .ensures) (c .enum-told .given .1) .bounds)
+    let k = table-accepted _ _ (c .before .before .before .read .ensures) (c .enum-told .given .1) in (k .table, k .counts .elements)
 
 enum-told-2 : tie.Need-enum-told-2
 enum-told-2 c = search needs
@@ -24,7 +23,8 @@ enum-told-2 c = search needs
 returns : tie.Need-returns
 returns c =
     let e = c .before in
-    start-accepted _ _ _ _ _ (table-accepted _ _ (e .before .before .before .read .ensures) (e .enum-told .given .1)) (e .enum-told .given .1) (c .start-on .ensures)
+    let k = table-accepted _ _ (e .before .before .before .read .ensures) (e .enum-told .given .1) in
+    start-accepted _ _ _ _ (k .kept) (e .enum-told .given .1) (c .start-on .ensures)
 
 returns-2 : tie.Need-returns-2
 unfolding startAnswer

@@ -4,7 +4,7 @@ use mathlib.Core.Path.{sym, ap, _∙_}
 use Rattle.table.specs.Verdicts.{verdictAnswer}
 use Rattle.table.proofs.TableLaws.{rules-accepted}
 use Rattle.engine.specs.Entries.{stepAnswer}
-use Rattle.engine.proofs.EntryLaws.{refused-by-table, answered-as, answered-table}
+use Rattle.engine.proofs.EntryLaws.{refused-by-table, answered-as}
 use Rattle.engine.proofs.step.Statement.{statement}
 use Rattle.engine.proofs.step.Tie as tie
 
@@ -27,8 +27,7 @@ returns c =
     let e = c .before in
     let p = e .before .before .before .prepare .ensures in
     let k = sym (p .verdict) ∙ ap verdictAnswer (e .enum-told .given .1) in
-    answered-as (rules-accepted _ _ k)
-    (answered-table _ _ _ _ (p .table k) (c .step-with .ensures))
+    answered-as (rules-accepted _ _ k) (c .step-with .ensures)
 
 returns-2 : tie.Need-returns-2
 unfolding stepAnswer

@@ -2,14 +2,13 @@
 use borrow.Author.Needs.{needs}
 use mathlib.Core.Path.{sym, _∙_}
 use borrow.Author.Tests.{not-true, not-false}
-use Rattle.table.proofs.HeldLaws.{few-elements}
 use Rattle.state.proofs.AnswerLaws.{answered-refused}
 use Rattle.engine.proofs.EntryLaws.{state-refused}
 use Rattle.engine.proofs.step_with.Statement.{statement}
 use Rattle.engine.proofs.step_with.Tie as tie
 
 state-fits-requires : tie.Need-state-fits-requires
-state-fits-requires c κs = few-elements _ (c .before .pre .table)
+state-fits-requires c κs = let p = c .before .before .pre in (p .table, p .elements)
 
 refused-requires : tie.Need-refused-requires
 refused-requires c κs = search needs
@@ -21,7 +20,7 @@ returns c =
 
 step-from-requires : tie.Need-step-from-requires
 step-from-requires c κs =
-    (c .before .before .before .pre, sym (c .before .state-fits .ensures) ∙ not-false _ (c .if1 .left))
+    (c .before .before .before .before .pre, sym (c .before .state-fits .ensures) ∙ not-false _ (c .if1 .left))
 
 returns-2 : tie.Need-returns-2
 returns-2 c = c .step-from .ensures

@@ -15,7 +15,7 @@ use Rattle.figure_text.proofs.put_decimal.Statement.{statement}
 use Rattle.figure_text.proofs.put_decimal.Tie as tie
 
 first-group-requires : tie.Need-first-group-requires
-first-group-requires c κs = search needs
+first-group-requires c κs = tt
 
 put-short-requires : tie.Need-put-short-requires
 put-short-requires c κs = search needs
@@ -44,7 +44,7 @@ module _ (c : tie.Joined1) where
   upper : Put (start .args .out .now) (start .args .at) (decimal (upperGroups (start .args .x))) (c .if1 .out) (c .if1 .end)
   upper =
       ⊎-elim
-      (λ w. put-known (w .5) (w .6) (put-same (first-and-next _ _ (grouped .first-group .ensures .0) (w .0 .taken) (start .pre .0)) (put-then (short .put-short .ensures .0) (w .2 .ensures))))
+      (λ w. put-known (w .5) (w .6) (put-same (first-and-next _ _ (grouped .first-group .ensures .0) (w .0 .taken) (omega (arith, start .good))) (put-then (short .put-short .ensures .0) (w .2 .ensures))))
       (λ w. put-known (w .1) (w .2) (put-same (first-is-upper _ _ (grouped .first-group .ensures .0) (omega (arith, w .0 .left))) (short .put-short .ensures .0)))
       (c .if1 .came)
 
@@ -61,7 +61,7 @@ module _ (c : tie.Joined1) where
 put-four-requires-2 : tie.Need-put-four-requires-2
 put-four-requires-2 c κs =
     let j = c .before .before in
-    (omega arith, (omega (arith, few j, whole j, start j .pre .1 .0), start j .pre .1 .1))
+    (omega arith, (omega (arith, few j, whole j, start j .pre .0), start j .pre .1))
 
 add-end-2 : tie.Need-add-end-2
 add-end-2 c =
@@ -78,7 +78,7 @@ returns : tie.Need-returns
 returns c =
     let f = c .before .before .before in
     let j = f .before .before .before in
-    put-same (upper-and-last _ (f .before .before .if2 .taken) (start j .pre .0)) (put-then (upper j) (f .put-four2 .ensures))
+    put-same (upper-and-last _ (f .before .before .if2 .taken) (omega (arith, start j .good))) (put-then (upper j) (f .put-four2 .ensures))
 
 same-length-2 : tie.Need-same-length-2
 same-length-2 c = whole (c .before)

@@ -7,9 +7,7 @@ use Rattle.figure_text.proofs.put_figure.Statement.{statement}
 use Rattle.figure_text.proofs.put_figure.Tie as tie
 
 put-decimal-requires : tie.Need-put-decimal-requires
-put-decimal-requires c κs =
-    let p = c .before .before .before .pre in
-    (p .0, (omega arith, p .1 .1))
+put-decimal-requires c κs = (omega arith, c .before .before .before .pre .1)
 
 slice-write-out : tie.Need-slice-write-out
 slice-write-out c =

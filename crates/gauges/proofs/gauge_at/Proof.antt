@@ -46,27 +46,33 @@ add-piece-at-5 c = search needs
 piece-at-requires-5 : tie.Need-piece-at-requires-5
 piece-at-requires-5 c κs = search needs
 
-byte-requires : tie.Need-byte-requires
-byte-requires c κs = search needs
+shared-slice-read-wide : tie.Need-shared-slice-read-wide
+shared-slice-read-wide c = search needs
 
-add-read32 : tie.Need-add-read32
-add-read32 c = search needs
+wide-requires : tie.Need-wide-requires
+wide-requires c κs = search needs
 
-read32-requires : tie.Need-read32-requires
-read32-requires c κs = search needs
+add-whole32 : tie.Need-add-whole32
+add-whole32 c = search needs
 
-add-byte : tie.Need-add-byte
-add-byte c = search needs
+whole32-requires : tie.Need-whole32-requires
+whole32-requires c κs = search needs
 
-byte-requires-2 : tie.Need-byte-requires-2
-byte-requires-2 c κs = search needs
+add-wide : tie.Need-add-wide
+add-wide c = search needs
+
+shared-slice-read-wide-2 : tie.Need-shared-slice-read-wide-2
+shared-slice-read-wide-2 c = search needs
+
+wide-requires-2 : tie.Need-wide-requires-2
+wide-requires-2 c κs = search needs
 
 returns : tie.Need-returns
 unfolding gaugeAt
 returns c =
-    let noise = c .before .read32 .ensures .0 in
-    let element = c .before .before .byte .ensures .0 in
-    let five = c .before .before .before in
+    let noise = c .before .before .whole32 .ensures .0 in
+    let element = c .before .before .before .wide .ensures .0 in
+    let five = c .before .before .before .before .before in
     let four = five .before in
     let three = four .before in
     let two = three .before in
@@ -78,7 +84,7 @@ returns c =
       five .piece-at5 .ensures,
       element,
       noise,
-      c .byte2 .ensures .0,
+      c .wide2 .ensures .0,
     )
 
 pub gauge-at-spec : {M : Type 1} → statement M
@@ -99,9 +105,11 @@ gauge-at-spec =
     piece-at-requires-4
     add-piece-at-5
     piece-at-requires-5
-    byte-requires
-    add-read32
-    read32-requires
-    add-byte
-    byte-requires-2
+    shared-slice-read-wide
+    wide-requires
+    add-whole32
+    whole32-requires
+    add-wide
+    shared-slice-read-wide-2
+    wide-requires-2
     returns)

@@ -1,16 +1,12 @@
 -- `forecast_in` meets its contract.
 use borrow.Author.Needs.{needs}
 use native.Mathlib.Omega.{arith}
-use Rattle.table.specs.InUse.{valuesOf}
-use Rattle.table.proofs.HeldLaws.{few-elements}
-use Rattle.leads.proofs.ForecastLaws.{few-leads, spoiled-refused, spoiled-accepted}
+use Rattle.leads.proofs.ForecastLaws.{needed-held, spoiled-refused, spoiled-accepted}
 use Rattle.leads.proofs.forecast_in.Statement.{statement}
 use Rattle.leads.proofs.forecast_in.Tie as tie
 
 answer-numbers-requires : tie.Need-answer-numbers-requires
-answer-numbers-requires c κs =
-    let b = c .before .pre .0 .table in
-    (few-elements _ b, few-leads _ b)
+answer-numbers-requires c κs = search needs
 
 work-out-requires : tie.Need-work-out-requires
 work-out-requires c κs = search needs
@@ -25,24 +21,22 @@ same-length : tie.Need-same-length
 same-length c = search needs
 
 returns : tie.Need-returns
-unfolding valuesOf
 returns c =
     let w = c .before .before .before .before in
     let n = w .before .before in
-    let p = n .before .before .pre in
-    rw (n .answer-numbers .ensures .0)
-    (spoiled-accepted _ _ (p .0 .table) _ (omega (arith, p .1 .1, w .work-out .kept)) _ (w .work-out .ensures) (c .enum-told .given .1))
+    let p = n .before .before .before .pre in
+    rw (needed-held _ _ (p .0) (n .answer-numbers .ensures .0))
+    (spoiled-accepted _ _ (p .0 .table .bounds) _ (omega (arith, p .1 .1, w .work-out .kept)) _ (w .work-out .ensures) (c .enum-told .given .1))
 
 same-length-2 : tie.Need-same-length-2
 same-length-2 c = search needs
 
 returns-2 : tie.Need-returns-2
-unfolding valuesOf
 returns-2 c =
     let v = c .before in
     let w = v .before .before .before .before in
-    let p = w .before .before .before .before .pre in
-    spoiled-refused _ _ (p .0 .table) _ (omega (arith, p .1 .1, w .work-out .kept)) _ (w .work-out .ensures) (v .verdict .given .1)
+    let p = w .before .before .before .before .before .pre in
+    spoiled-refused _ _ (p .0 .table .bounds) _ (omega (arith, p .1 .1, w .work-out .kept)) _ (w .work-out .ensures) (v .verdict .given .1)
 
 pub forecast-in-spec : {M : Type 1} → statement M
 forecast-in-spec =

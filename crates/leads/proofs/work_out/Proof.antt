@@ -14,7 +14,7 @@ slice-aggregate-work-leads c = search needs
 work-leads-requires : tie.Need-work-leads-requires
 work-leads-requires c κs =
     let r = c .before .before in
-    let p = r .before .before .pre in
+    let p = r .before .before .before .pre in
     (p .0, (r .rain-count .ensures .0, (state-under _ _ (p .1 .0), (p .1 .1, refl))))
 
 same-length : tie.Need-same-length

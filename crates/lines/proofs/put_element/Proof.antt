@@ -8,7 +8,7 @@ use Rattle.text.specs.Places.{Put}
 use Rattle.text.proofs.PlacesLaws.{put-before, put-same}
 use Rattle.lines.specs.Printed.{joined}
 use Rattle.lines.specs.Starts.{lineAfter, linesAfter}
-use Rattle.lines.proofs.PrintedLaws.{joined-none, joined-more, joined-all}
+use Rattle.lines.proofs.PrintedLaws.{joined-none, joined-more, joined-all, fewer-under}
 use Rattle.lines.proofs.put_element.Statement.{statement}
 use Rattle.lines.proofs.put_element.Tie as tie
 
@@ -22,11 +22,14 @@ Inv-loop out₀ at numbers start size i leads pairs whole next₀ lead₀ out ne
 abbrev μ-loop : tie.MeasureT-loop
 μ-loop out₀ at numbers start size i leads pairs whole next₀ lead₀ out next lead = leads - lead
 
+cast-put-small : tie.Need-cast-put-small Inv-loop μ-loop
+cast-put-small c = omega arith
+
 add-put-small : tie.Need-add-put-small Inv-loop μ-loop
 add-put-small c = omega arith
 
 put-small-requires : tie.Need-put-small-requires Inv-loop μ-loop
-put-small-requires c κs = (omega arith, (omega arith, c .before .before .before .before .before .pre .1 .1 .1 .1 .1 .1))
+put-small-requires c κs = (omega arith, (omega arith, c .before .before .before .before .before .pre .1 .1 .1 .1 .1 .1 .1))
 
 loop-holds : tie.Need-loop-holds Inv-loop μ-loop
 loop-holds c = (omega arith, (omega arith, (refl, joined-none _ _ _)))
@@ -44,7 +47,7 @@ put-line-requires : tie.Need-put-line-requires Inv-loop μ-loop
 put-line-requires c κs =
     let q = c .before .before .before .before .before .before in
     let s = q .before .before .before .before .before .before in
-    (omega arith, (q .put-small .kept .0 ∙ s .pre .1 .1 .1 .1 .0, (omega arith, (omega arith, (omega arith, s .pre .1 .1 .1 .1 .1 .1)))))
+    (omega arith, (q .put-small .kept .0 ∙ s .pre .1 .1 .1 .1 .0, (omega arith, (omega arith, (omega arith, (fewer-under _ _ _ (omega arith) (s .pre .1 .1 .1 .1 .1 .1 .0), s .pre .1 .1 .1 .1 .1 .1 .1))))))
 
 add-lead : tie.Need-add-lead Inv-loop μ-loop
 add-lead c = omega arith
@@ -84,6 +87,7 @@ put-element-spec =
     (tie.spec
     Inv-loop
     μ-loop
+    cast-put-small
     add-put-small
     put-small-requires
     loop-holds

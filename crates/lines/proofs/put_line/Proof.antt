@@ -11,12 +11,15 @@ put-start-requires c κs =
     let s = c .before .before .before .before .before in
     (s .pre .1 .0, (s .pre .1 .1 .0, omega (arith, s .pre .0)))
 
+cast-put-small : tie.Need-cast-put-small
+cast-put-small c = omega arith
+
 put-small-requires : tie.Need-put-small-requires
 put-small-requires c κs =
     let p = c .before .before .before in
     let s = p .before .before .before .before .before .before in
     let k = length-take-le (s .args .size) (s .args .start .now) (omega (arith, s .pre)) in
-    (s .pre .1 .1 .1 .0, (omega (arith, s .pre, p .put-start .ensures .ends, p .put-start .kept .0, k), s .pre .1 .1 .1 .1 .1))
+    (s .pre .1 .1 .1 .0, (omega (arith, s .pre, p .put-start .ensures .ends, p .put-start .kept .0, k), s .pre .1 .1 .1 .1 .1 .1))
 
 put-figures-requires : tie.Need-put-figures-requires
 put-figures-requires c κs =
@@ -48,4 +51,4 @@ returns c =
 pub put-line-spec : {M : Type 1} → statement M
 put-line-spec =
     tie.close
-    (tie.spec put-start-requires put-small-requires put-figures-requires same-length returns)
+    (tie.spec put-start-requires cast-put-small put-small-requires put-figures-requires same-length returns)

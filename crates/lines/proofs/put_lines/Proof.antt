@@ -9,7 +9,7 @@ use Rattle.text.specs.Decimal.{decimal}
 use Rattle.text.specs.Places.{Put}
 use Rattle.text.proofs.PlacesLaws.{put-same}
 use Rattle.lines.specs.Printed.{joined, elementLines, answerLines}
-use Rattle.lines.proofs.PrintedLaws.{joined-none, joined-more, joined-all, rows-within, lines-start}
+use Rattle.lines.proofs.PrintedLaws.{joined-none, joined-more, joined-all, rows-within, lines-start, fewer-under}
 use Rattle.lines.proofs.put_lines.Statement.{statement}
 use Rattle.lines.proofs.put_lines.Tie as tie
 
@@ -55,7 +55,7 @@ put-element-requires c κs =
       omega (arith, rows),
       (
         omega (arith, rows),
-        (omega arith, (s .pre .1 .1 .1, (l .inv .1 .1 .1 .1 .0, (p .put-number .ensures .1, d .digit-pairs .ensures)))),
+        (omega arith, (s .pre .1 .1 .1 .0, (l .inv .1 .1 .1 .1 .0, (p .put-number .ensures .1, (fewer-under _ _ _ (omega (arith, rows)) (s .pre .1 .1 .1 .1), d .digit-pairs .ensures))))),
       ),
     )
 

@@ -1,31 +1,45 @@
 -- `prepare` meets its contract.
-use mathlib.Core.Path.{_∙_}
 use borrow.Author.Needs.{needs}
-use Rattle.table.proofs.HeldLaws.{table-accepted}
-use Rattle.plan.proofs.PlanLaws.{verdict-accepted, counts-known, plan-fits}
+use Rattle.refusal.proofs.RuleLaws.{not-both}
+use Rattle.table.proofs.HeldLaws.{table-accepted, table-refused}
 use Rattle.plan.proofs.prepare.Statement.{statement}
 use Rattle.plan.proofs.prepare.Tie as tie
 
 read-requires : tie.Need-read-requires
 read-requires c κs = search needs
 
-weigh-accepted-requires : tie.Need-weigh-accepted-requires
-weigh-accepted-requires c κs =
-    λ e.
-    let k = table-accepted _ _ (c .before .read .ensures) e in
-    (rw (k .values) at (k .bounds), counts-known _ _ (k .values))
+enum-told : tie.Need-enum-told
+enum-told c = search needs
+
+weigh-requires : tie.Need-weigh-requires
+weigh-requires c κs = let k = table-accepted _ _ (c .before .before .read .ensures) (c .enum-told .given .1) in (k .table, k .counts)
+
+enum-told-2 : tie.Need-enum-told-2
+enum-told-2 c = search needs
+
+no-plan-requires : tie.Need-no-plan-requires
+no-plan-requires c κs = search needs
 
 returns : tie.Need-returns
-returns c =
-    let r = c .before .before .before .read .ensures in
+returns c = search needs
+
+returns-2 : tie.Need-returns-2
+returns-2 c =
+    let refused = c .before in
+    let r = refused .before .before .read .ensures in
     record {
       verdict = r .verdict;
-      fits = λ a.
-          let e = verdict-accepted _ (r .verdict ∙ a) in
-          let k = table-accepted _ _ r e in
-          plan-fits _ _ _ _ (k .values) (k .bounds) (c .before .weigh-accepted .ensures e);
-      table = λ a. table-accepted _ _ r (verdict-accepted _ (r .verdict ∙ a)) .values;
+      fits = λ a. absurd (not-both a (table-refused _ _ r (refused .enum-told2 .given .1)));
     }
 
 pub prepare-spec : {M : Type 1} → statement M
-prepare-spec = tie.close (tie.spec read-requires weigh-accepted-requires returns)
+prepare-spec =
+    tie.close
+    (tie.spec
+    read-requires
+    enum-told
+    weigh-requires
+    enum-told-2
+    no-plan-requires
+    returns
+    returns-2)

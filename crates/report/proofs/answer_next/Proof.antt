@@ -1,9 +1,8 @@
 -- `answer_next` meets its contract.
 use mathlib.Core.Path.{sym}
-use lib.Seq.{length-take-le}
-use Rattle.table.specs.InUse.{valuesOf}
-use Rattle.report.proofs.ReportLaws.{reported-on}
 use borrow.Author.Needs.{needs}
+use lib.Seq.{length-take-le}
+use Rattle.report.proofs.ReportLaws.{reported-on}
 use Rattle.report.proofs.answer_next.Statement.{statement}
 use Rattle.report.proofs.answer_next.Tie as tie
 
@@ -17,17 +16,16 @@ answer-record-requires : tie.Need-answer-record-requires
 answer-record-requires c κs = search needs
 
 same-length : tie.Need-same-length
-same-length c = c .before .before .before .before .answer-record .kept .1 .1 .1 .0
+same-length c = search needs
 
 same-length-2 : tie.Need-same-length-2
-same-length-2 c = c .before .before .before .before .answer-record .kept .1 .1 .1 .1 .0
+same-length-2 c = search needs
 
 returns : tie.Need-returns
 returns c =
     let r = c .before .before .before .before in
     let e = r .before .before .before .before .record-length .ensures in
-    let s = r .before .before .before .before .before .before .before .before in
-    reported-on (valuesOf (s .args .plan .table)) (s .args .state) _ _ (sym (e .bytes)) (r .answer-record .ensures)
+    reported-on _ _ _ _ (sym (e .bytes)) (r .answer-record .ensures)
 
 pub answer-next-spec : {M : Type 1} → statement M
 answer-next-spec =

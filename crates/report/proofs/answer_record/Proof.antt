@@ -1,9 +1,9 @@
 -- `answer_record` meets its contract.
 use mathlib.Core.Path.{refl}
+use borrow.Author.Needs.{needs}
 use Rattle.report.specs.Records.{recordOnPrinted}
 use Rattle.engine.proofs.NextLaws.{answered-fits}
 use Rattle.report.proofs.ReportLaws.{told-refusal, with-state, forecast-state, refusal-state, step-accepted, step-refused}
-use borrow.Author.Needs.{needs}
 use Rattle.report.proofs.answer_record.Statement.{statement}
 use Rattle.report.proofs.answer_record.Tie as tie
 
@@ -17,8 +17,8 @@ answer-forecast-requires : tie.Need-answer-forecast-requires
 answer-forecast-requires c κs =
     let m = c .before .before in
     let w = m .before .before .before in
-    let p = w .before .before .before .before .pre in
-    (p .0, (answered-fits _ _ _ _ (p .0 .table) (w .step-from .ensures) (m .enum-told .given .1), p .1 .1))
+    let p = w .before .before .before .before .before .pre in
+    (p .0, (answered-fits _ _ _ _ (p .0 .table .bounds) (w .step-from .ensures) (m .enum-told .given .1), p .1 .1))
 
 enum-known-verdict : tie.Need-enum-known-verdict
 enum-known-verdict c = search needs
@@ -38,7 +38,8 @@ returns c =
     let f = c .before .before .before .before in
     let m = f .before .before .before in
     let w = m .before .before .before in
-    with-state _ _ (f .answer-forecast .ensures) (forecast-state _ _ _) (step-accepted _ _ _ _ _ (w .step-from .ensures) (m .enum-told .given .1))
+    with-state _ _ (f .answer-forecast .ensures) (forecast-state _ _ _)
+    (step-accepted _ _ _ _ _ (w .step-from .ensures) (m .enum-told .given .1))
 
 same-length-3 : tie.Need-same-length-3
 same-length-3 c = search needs

@@ -1,40 +1,49 @@
 -- `places_fit` meets its contract.
-use Prim.Native.Nat.{_≤_, _-_}
+use Prim.Native.Nat.{_≤_, _<_, _-_}
 use mathlib.Core.Path.{_≡_, ap, _∙_}
+use borrow.Author.Needs.{needs}
 use native.Mathlib.Omega.{arith}
 use Rattle.fields.specs.Ranges.{allBelow}
 use Rattle.fields.proofs.RangeLaws.{all-none, all-more}
+use Rattle.table.specs.InUse.{tableIn}
+use Rattle.table.proofs.HeldLaws.{element-there}
 use Rattle.state.proofs.StateLaws.{placeTest, place-tested}
-use borrow.Author.Needs.{needs}
 use Rattle.state_rules.proofs.places_fit.Statement.{statement}
 use Rattle.state_rules.proofs.places_fit.Tie as tie
 
 abbrev Inv-loop : tie.InvT-loop
-Inv-loop table state n fit₀ i₀ fit i = (i ≤ n) × (fit ≡ allBelow (placeTest table state) i)
+Inv-loop table n state fit₀ i₀ fit i = (i ≤ n) × (fit ≡ allBelow (placeTest table state) i)
 
 abbrev μ-loop : tie.MeasureT-loop
-μ-loop table state n fit₀ i₀ fit i = n - i
+μ-loop table n state fit₀ i₀ fit i = n - i
 
 loop-holds : tie.Need-loop-holds Inv-loop μ-loop
 loop-holds c = (omega arith, all-none _)
 
-mul-e : tie.Need-mul-e Inv-loop μ-loop
-mul-e c = search needs
+-- an element of the loop is in use
+abbrev start : tie.In-loop Inv-loop μ-loop → tie.Start Inv-loop μ-loop
+start c = c .before .before .before
 
-element-copy-out-e : tie.Need-element-copy-out-e Inv-loop μ-loop
-element-copy-out-e c = search needs
+used : (c : tie.In-loop Inv-loop μ-loop) → c .before .loop .i < tableIn (start c .args .table .now) .elements
+used c = omega (arith, start c .pre .1)
+
+within : (c : tie.In-loop Inv-loop μ-loop) → c .before .loop .i < 64
+within c = omega (arith, used c, start c .pre .0 .bounds .elementsMost)
+
+kind-at-requires : tie.Need-kind-at-requires Inv-loop μ-loop
+kind-at-requires c κs = element-there _ (start c .pre .0) (used c)
 
 mul-place-fits : tie.Need-mul-place-fits Inv-loop μ-loop
-mul-place-fits c = search needs
+mul-place-fits c = omega (arith, within (c .before))
 
 element-copy-out-place-fits : tie.Need-element-copy-out-place-fits Inv-loop μ-loop
-element-copy-out-place-fits c = search needs
+element-copy-out-place-fits c = within (c .before)
 
 place-fits-requires : tie.Need-place-fits-requires Inv-loop μ-loop
 place-fits-requires c κs = search needs
 
 add-i : tie.Need-add-i Inv-loop μ-loop
-add-i c = search needs
+add-i c = omega (arith, within (c .before .before .before))
 
 loop-less : tie.Need-loop-less Inv-loop μ-loop
 loop-less c = search needs
@@ -43,13 +52,13 @@ loop-again : tie.Need-loop-again Inv-loop μ-loop
 loop-again c =
     let l = c .before .before .before in (
       omega arith,
-      all-more _ _ (l .before .loop .inv .1) (place-tested _ _ _ _ (l .loop-test .taken) (c .place-fits .ensures)),
+      all-more _ _ (l .before .loop .inv .1) (place-tested _ _ _ (used l) (c .before .before .kind-at .ensures) (c .place-fits .ensures)),
     )
 
 returns : tie.Need-returns Inv-loop μ-loop
 unfolding placeTest
 returns c =
-    let e : c .before .loop .i ≡ c .before .before .args .t1 .elements = omega arith in
+    let e : c .before .loop .i ≡ tableIn (c .before .before .before .args .table .now) .elements = omega (arith, c .before .before .before .pre .1) in
     c .before .loop .inv .1 ∙ ap (allBelow _) e
 
 pub places-fit-spec : {M : Type 1} → statement M
@@ -59,8 +68,7 @@ places-fit-spec =
     Inv-loop
     μ-loop
     loop-holds
-    mul-e
-    element-copy-out-e
+    kind-at-requires
     mul-place-fits
     element-copy-out-place-fits
     place-fits-requires

@@ -1,133 +1,165 @@
 -- `judge` meets its contract.
 use Prim.{Unit}
-use Prim.Native.Nat.{ℕ}
-use mathlib.Core.Path.{_≡_, sym, _∙_}
+use Prim.Native.Nat.{ℕ, _+_, _*_, _≤_}
+use mathlib.Core.Path.{_≡_}
 use mathlib.Core.List.{List}
-use borrow.Author.Needs.{needs}
+use native.Mathlib.Omega.{arith}
+use lib.ListN.{length}
 use Rattle.refusal.specs.Answers.{accepted}
+use Rattle.table.specs.declared.Counts.{Counts}
 use Rattle.table.specs.Tables.{tableOf}
 use Rattle.table.specs.Rules.{elementsFit, downsFit, gaugesFit, tableRules}
-use Rattle.table.proofs.TableLaws.{HeaderKept, kept, broken, header-left, elements-read, downs-judged, rulesLeft}
+use Rattle.table.proofs.TableLaws.{
+  HeaderKept,
+  kept,
+  broken,
+  header-left,
+  rulesLeft,
+  counts-bounds,
+  elements-judged,
+  downs-judged,
+  gauges-judged,
+}
+use Rattle.table.proofs.HeldLaws.{header-whole, all-there}
 use Rattle.table_reader.proofs.judge.Statement.{statement}
 use Rattle.table_reader.proofs.judge.Tie as tie
 
-length-fits-requires : tie.Need-length-fits-requires
-length-fits-requires c κs = search needs
+version-fits-requires : tie.Need-version-fits-requires
+version-fits-requires c κs = header-whole _ (c .before .pre .0)
 
 returns : tie.Need-returns
 unfolding tableRules
-returns c = rw (broken (c .before .length-fits .ensures) (c .if1 .taken))
+returns c =
+    let start = c .before .before .before in
+    rw (start .pre .0, broken (c .before .version-fits .ensures) (c .if1 .taken))
 
-version-fits-requires : tie.Need-version-fits-requires
-version-fits-requires c κs = search needs
+counts-fit-requires : tie.Need-counts-fit-requires
+counts-fit-requires c κs = header-whole _ (c .before .before .before .pre .0)
 
 returns-2 : tie.Need-returns-2
 unfolding tableRules
 returns-2 c =
-    let one = c .before .before in
-    rw (kept (one .before .length-fits .ensures) (one .if1 .left), broken (c .before .version-fits .ensures) (c .if2 .taken))
+    let two = c .before .before in
+    let version = kept (two .before .version-fits .ensures) (two .if1 .left) in
+    rw (two .before .before .before .pre .0, version, broken (c .before .counts-fit .ensures) (c .if2 .taken))
 
-counts-fit-requires : tie.Need-counts-fit-requires
-counts-fit-requires c κs = search needs
+size-fits-requires : tie.Need-size-fits-requires
+size-fits-requires c κs = header-whole _ (c .before .before .before .before .before .pre .0)
 
 returns-3 : tie.Need-returns-3
 unfolding tableRules
 returns-3 c =
-    let two = c .before .before in
-    let one = two .before .before in
-    let length = kept (one .before .length-fits .ensures) (one .if1 .left) in
-    let version = kept (two .before .version-fits .ensures) (two .if2 .left) in
-    rw (length, version, broken (c .before .counts-fit .ensures) (c .if3 .taken))
-
-size-fits-requires : tie.Need-size-fits-requires
-size-fits-requires c κs = search needs
-
-returns-4 : tie.Need-returns-4
-unfolding tableRules
-returns-4 c =
     let three = c .before .before in
     let two = three .before .before in
-    let one = two .before .before in
-    let length = kept (one .before .length-fits .ensures) (one .if1 .left) in
-    let version = kept (two .before .version-fits .ensures) (two .if2 .left) in
-    let counts = kept (three .before .counts-fit .ensures) (three .if3 .left) in
-    rw (length, version, counts, broken (c .before .size-fits .ensures) (c .if4 .taken))
+    let version = kept (two .before .version-fits .ensures) (two .if1 .left) in
+    let counts = kept (three .before .counts-fit .ensures) (three .if2 .left) in
+    rw (two .before .before .before .pre .0, version, counts, broken (c .before .size-fits .ensures) (c .if3 .taken))
 
 -- the header's rules are kept
-abbrev bytes : tie.Else4 → List ℕ
-bytes c = c .before .before .before .before .before .before .before .before .before .args .table .now
+abbrev start : tie.Else3 → tie.Start
+start c = c .before .before .before .before .before .before .before
 
-header : (c : tie.Else4) → HeaderKept (bytes c)
+abbrev bytes : tie.Else3 → List ℕ
+bytes c = start c .args .table .now
+
+abbrev counts : tie.Else3 → Counts
+counts c = start c .args .counts
+
+header : (c : tie.Else3) → HeaderKept (bytes c)
 header c =
     let three = c .before .before in
     let two = three .before .before in
-    let one = two .before .before in
     record {
-      length = kept (one .before .length-fits .ensures) (one .if1 .left);
-      version = kept (two .before .version-fits .ensures) (two .if2 .left);
-      counts = kept (three .before .counts-fit .ensures) (three .if3 .left);
-      size = kept (c .before .size-fits .ensures) (c .if4 .left);
+      length = start c .pre .0;
+      version = kept (two .before .version-fits .ensures) (two .if1 .left);
+      counts = kept (three .before .counts-fit .ensures) (three .if2 .left);
+      size = kept (c .before .size-fits .ensures) (c .if3 .left);
     }
 
 left :
-    (c : tie.Else4) → tableRules {A = Unit} (bytes c) (accepted tt) ≡ rulesLeft (tableOf (bytes c)) (accepted tt)
+    (c : tie.Else3) → tableRules {A = Unit} (bytes c) (accepted tt) ≡ rulesLeft (tableOf (bytes c)) (accepted tt)
 left c = header-left _ _ (header c)
 
--- what was judged beforehand
-abbrev start : tie.Else4 → tie.Start
-start c = c .before .before .before .before .before .before .before .before .before
+-- all elements and gauges are there
+there :
+    (c : tie.Else3)
+    → (counts c .elements ≤ 64)
+    × ((counts c .gauges ≤ 16) × (26 * counts c .elements + 46 * counts c .gauges + 10 ≤ length (bytes c)))
+there c =
+    let b = counts-bounds _ (header c .counts) in
+    let n = start c .pre .1 .elements in
+    let m = start c .pre .1 .gauges in
+    let whole = all-there _ (header c .length) (header c .size) in
+    (rw n (b .elementsMost), (rw m (b .gaugesMost), omega arith))
 
-n-read : (c : tie.Else4) → start c .args .n ≡ tableOf (bytes c) .elements
-n-read c = start c .pre .1 (header c .counts) .0
+elements-fit-requires : tie.Need-elements-fit-requires
+elements-fit-requires c κs = (there c .0, omega (arith, there c .1 .1))
 
-elements : (c : tie.Else4) → start c .args .elements ≡ elementsFit (tableOf (bytes c))
-elements c = start c .pre .1 (header c .counts) .1 .0
+elements : (c : tie.After-elements-fit) → c .elements-fit .result ≡ elementsFit (tableOf (bytes (c .before)))
+unfolding tableOf
+elements c =
+    let held = start (c .before) .pre .1 in
+    elements-judged _ (held .step) (held .elements) (c .elements-fit .ensures)
 
-gauges : (c : tie.Else4) → start c .args .gauges ≡ gaugesFit (tableOf (bytes c))
-gauges c = start c .pre .1 (header c .counts) .1 .1
-
-returns-5 : tie.Need-returns-5
-returns-5 c = rw (left (c .before), broken (elements (c .before)) (c .if5 .taken))
+returns-4 : tie.Need-returns-4
+returns-4 c = rw (left (c .before .before), broken (elements (c .before)) (c .if4 .taken))
 
 downs-fit-requires : tie.Need-downs-fit-requires
-downs-fit-requires c κs = search needs
+downs-fit-requires c κs =
+    let t = there (c .before .before) in
+    (t .0, omega (arith, t .1 .1))
 
-downs : (c : tie.After-downs-fit) → c .downs-fit .result ≡ downsFit (tableOf (bytes (c .before .before)))
-downs c = downs-judged _ (n-read (c .before .before) ∙ sym (elements-read _)) (c .downs-fit .ensures)
+downs : (c : tie.After-downs-fit) → c .downs-fit .result ≡ downsFit (tableOf (bytes (c .before .before .before)))
+unfolding tableOf
+downs c = downs-judged _ (start (c .before .before .before) .pre .1 .elements) (c .downs-fit .ensures)
+
+returns-5 : tie.Need-returns-5
+returns-5 c =
+    let five = c .before .before in
+    let fits = kept (elements (five .before)) (five .if4 .left) in
+    rw (left (five .before .before), fits, broken (downs (c .before)) (c .if5 .taken))
+
+gauges-fit-requires : tie.Need-gauges-fit-requires
+gauges-fit-requires c κs = there (c .before .before .before .before)
+
+gauges :
+    (c : tie.After-gauges-fit)
+    → c .gauges-fit .result ≡ gaugesFit (tableOf (bytes (c .before .before .before .before .before)))
+unfolding tableOf
+gauges c =
+    let held = start (c .before .before .before .before .before) .pre .1 in
+    gauges-judged _ (held .elements) (held .gauges) (c .gauges-fit .ensures)
 
 returns-6 : tie.Need-returns-6
 returns-6 c =
-    let five = c .before .before in
-    rw (left (five .before), kept (elements (five .before)) (five .if5 .left), broken (downs (c .before)) (c .if6 .taken))
+    let six = c .before .before in
+    let five = six .before .before in
+    let fits = kept (elements (five .before)) (five .if4 .left) in
+    let later = kept (downs (six .before)) (six .if5 .left) in
+    rw (left (five .before .before), fits, later, broken (gauges (c .before)) (c .if6 .taken))
 
 returns-7 : tie.Need-returns-7
 returns-7 c =
-    let six = c .before in
+    let six = c .before .before in
     let five = six .before .before in
-    let fits = kept (elements (five .before)) (five .if5 .left) in
-    rw (left (five .before), fits, kept (downs (six .before)) (six .if6 .left), broken (gauges (five .before)) (c .if7 .taken))
-
-returns-8 : tie.Need-returns-8
-returns-8 c =
-    let six = c .before in
-    let five = six .before .before in
-    let fits = kept (elements (five .before)) (five .if5 .left) in
-    rw (left (five .before), fits, kept (downs (six .before)) (six .if6 .left), kept (gauges (five .before)) (c .if7 .left))
+    let fits = kept (elements (five .before)) (five .if4 .left) in
+    let later = kept (downs (six .before)) (six .if5 .left) in
+    rw (left (five .before .before), fits, later, kept (gauges (c .before)) (c .if6 .left))
 
 pub judge-spec : {M : Type 1} → statement M
 judge-spec =
     tie.close
     (tie.spec
-    length-fits-requires
-    returns
     version-fits-requires
-    returns-2
+    returns
     counts-fit-requires
-    returns-3
+    returns-2
     size-fits-requires
+    returns-3
+    elements-fit-requires
     returns-4
-    returns-5
     downs-fit-requires
+    returns-5
+    gauges-fit-requires
     returns-6
-    returns-7
-    returns-8)
+    returns-7)

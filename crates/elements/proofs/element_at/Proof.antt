@@ -1,8 +1,8 @@
--- `whole_element` meets its contract.
+-- `element_at` meets its contract.
 use borrow.Author.Needs.{needs}
 use Rattle.elements.specs.Elements.{elementAt}
-use Rattle.elements.proofs.whole_element.Statement.{statement}
-use Rattle.elements.proofs.whole_element.Tie as tie
+use Rattle.elements.proofs.element_at.Statement.{statement}
+use Rattle.elements.proofs.element_at.Tie as tie
 
 mul-at : tie.Need-mul-at
 mul-at c = search needs
@@ -89,8 +89,8 @@ returns c =
       c .whole325 .ensures .0,
     )
 
-pub whole-element-spec : {M : Type 1} → statement M
-whole-element-spec =
+pub element-at-spec : {M : Type 1} → statement M
+element-at-spec =
     tie.close
     (tie.spec
     mul-at
