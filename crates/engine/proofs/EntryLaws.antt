@@ -54,7 +54,7 @@ pub start-accepted :
     → Answered (record { verdict = v; state = next }) (startAnswer bytes s) s
 unfolding startAnswer
 start-accepted bytes s next v k e h =
-    rw e (answered-accepted _ s next (table-laws.rules-accepted bytes _ k ∙ ap accepted (sym h)))
+    answered-accepted e (table-laws.rules-accepted bytes _ k ∙ ap accepted (sym h))
 
 -- an answer that the table's rules refuse
 pub refused-by-table :
@@ -62,7 +62,7 @@ pub refused-by-table :
     → tableRules {A = Unit} bytes (accepted tt) ≡ refused (number k)
     → v ≡ Refused k
     → Answered (record { verdict = v; state = s }) (tableRules bytes rest) s
-refused-by-table bytes rest s v k h e = rw e (answered-refused k _ s (table-laws.rules-refused bytes rest h))
+refused-by-table bytes rest s v k h e = answered-refused e (table-laws.rules-refused bytes rest h)
 
 -- ---- the step
 
@@ -121,14 +121,6 @@ record-verdict t bytes h e = sym (h .decided) ∙ ap verdictAnswer e
 pub answered-as :
     {r : StateAnswer} {a b : Answer State} {s : State} → a ≡ b → Answered r b s → Answered r a s
 answered-as {r} {a} {b} {s} e h = subst (λ (x : Answer State). Answered r x s) (sym e) h
-
--- a refused answer with its verdict held in a variable
-pub refused-as :
-    (v : Verdict) (k : Refusal) (answer : Answer State) (s : State)
-    → v ≡ Refused k
-    → answer ≡ refused (number k)
-    → Answered (record { verdict = v; state = s }) answer s
-refused-as v k answer s e h = rw e (answered-refused k answer s h)
 
 -- an answer on equal inputs
 pub answered-inputs :

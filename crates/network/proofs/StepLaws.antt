@@ -204,11 +204,12 @@ module _ (bytes numbers : List ℕ) (s : State) where
         → next ≡ stepped t told s
         → Answered (record { verdict = v; state = next }) (underCeiling (stepNumbers t told s) (stepped t told s)) s
     step-accepted e n =
-        rw (e, n) (answered-accepted _ _ _ (same-accepted tt (stepped t told s) _ (sym (ap verdictAnswer e) ∙ h .decided) .1))
+        answered-accepted e
+        (same-accepted tt (stepped t told s) _ (sym (ap verdictAnswer e) ∙ h .decided) .1 ∙ ap accepted (sym n))
 
     pub step-refused :
         {k : Refusal}
         → v ≡ Refused k
         → Answered (record { verdict = v; state = s }) (underCeiling (stepNumbers t told s) (stepped t told s)) s
     step-refused {k} e =
-        rw e (answered-refused k _ _ (same-refused-number tt _ _ (sym (h .decided) ∙ ap verdictAnswer e)))
+        answered-refused e (same-refused-number tt _ _ (sym (h .decided) ∙ ap verdictAnswer e))

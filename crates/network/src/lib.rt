@@ -26,14 +26,15 @@ use state::State;
 use state::StateAnswer;
 use table::Verdict;
 
-// What a step takes of element i: what its one rain brings, lead 0, and what its gauge tells.
+// What a step takes of element i: what its one rain brings, lead 0, and what its gauge tells. (The element is read last: where a branch
+// follows, the compiler puts its numbers together byte by byte.)
 fn step_course(table: &[u8], told: &[u64], i: usize, weight: u64) -> Course
     requires { ⌜ ((i ≤ 255) × (26 * i + 36 ≤ length (now table))) × ((3 * i + 2 < length (now told)) × ((inputIn (now told) i .rain ≤ 3000) × ((elementAt (now table) i .area ≤ 400000) × (elementAt (now table) i .runoff ≤ 1000)))) ⌝ }
     ensures { λ r. ⌜ r ≡ stepCourse (now (table .entry)) (now (told .entry)) i weight ⌝ }
 {
-    let element = element_at(table, i);
     let input = input_at(told, i);
     let observation = input.observation;
+    let element = element_at(table, i);
     let brought = mean_rain_inflow(input.rain, 1, element.area, element.runoff);
     Course {
         element,

@@ -5,6 +5,7 @@ use Rattle.refusal.specs.Answers.{Answer, accepted, refused}
 use Rattle.refusal.specs.declared.Refusal.{Refusal}
 use Rattle.refusal.proofs.RuleLaws.{not-both}
 use Rattle.table.specs.Verdicts.{verdictAnswer}
+use Rattle.table.specs.declared.Verdict.{Verdict}
 use Rattle.table.specs.declared.Verdict.the-variants.{Accepted, Refused}
 use Rattle.state.specs.declared.State.{State}
 use Rattle.state.specs.declared.StateAnswer.{StateAnswer}
@@ -12,18 +13,20 @@ use Rattle.state.specs.Answers.{verdict, stateAfter, Answered}
 
 -- a refusal hands back the state as it was
 pub answered-refused :
-    (r : Refusal) (answer : Answer State) (before : State)
-    → answer ≡ refused (number r)
-    → Answered (record { verdict = Refused r; state = before }) answer before
+    {v : Verdict} {k : Refusal} {answer : Answer State} {before : State}
+    → v ≡ Refused k
+    → answer ≡ refused (number k)
+    → Answered (record { verdict = v; state = before }) answer before
 unfolding verdict stateAfter
-answered-refused r answer before e = record { verdict = rw e; state = rw e }
+answered-refused v e = record { verdict = rw (v, e); state = rw e }
 
 pub answered-accepted :
-    (answer : Answer State) (before next : State)
+    {v : Verdict} {answer : Answer State} {before next : State}
+    → v ≡ Accepted
     → answer ≡ accepted next
-    → Answered (record { verdict = Accepted; state = next }) answer before
+    → Answered (record { verdict = v; state = next }) answer before
 unfolding verdict stateAfter
-answered-accepted answer before next e = record { verdict = rw e; state = rw e }
+answered-accepted v e = record { verdict = rw (v, e); state = rw e }
 
 -- an entry's answer, read backwards: it was accepted
 pub answered-next :

@@ -8,7 +8,7 @@ use Rattle.state.specs.Rules.{stepsLeft}
 use Rattle.state.proofs.AnswerLaws.{answered-refused}
 use Rattle.record.proofs.RecordLaws.{nothing-yet}
 use Rattle.network.proofs.StateFitsLaws.{steps-most, places-under}
-use Rattle.engine.proofs.EntryLaws.{limit-refused, record-refused, record-accepted, record-kept, record-verdict, inputs-are, inputs-fit, answered-as, refused-as, answered-inputs}
+use Rattle.engine.proofs.EntryLaws.{limit-refused, record-refused, record-accepted, record-kept, record-verdict, inputs-are, inputs-fit, answered-as, answered-inputs}
 use Rattle.engine.proofs.step_from.Statement.{statement}
 use Rattle.engine.proofs.step_from.Tie as tie
 
@@ -28,7 +28,7 @@ returns : tie.Need-returns
 returns c =
     let l = c .before .before in
     rw (c .refused .ensures)
-    (answered-refused _ _ _
+    (answered-refused refl
     (limit-refused _ _ _ (start l .pre .1) (sym (l .steps-left .ensures) ∙ not-true _ (c .before .if1 .taken))))
 
 slice-aggregate-read : tie.Need-slice-aggregate-read
@@ -72,7 +72,7 @@ returns-3 c =
     let r = c .before .before .before in
     let l = r .before .before in
     let refused = c .enum-told2 .given .1 in
-    refused-as _ _ _ _ refused
+    answered-refused refused
     (record-refused _ _ _ (start (l .before) .pre .1) (left l) (record-verdict _ _ (r .read .ensures) refused))
 
 pub step-from-spec : {M : Type 1} → statement M

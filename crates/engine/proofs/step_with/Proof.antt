@@ -1,6 +1,6 @@
 -- `step_with` meets its contract.
 use borrow.Author.Needs.{needs}
-use mathlib.Core.Path.{sym, _∙_}
+use mathlib.Core.Path.{refl, sym, _∙_}
 use borrow.Author.Tests.{not-true, not-false}
 use Rattle.state.proofs.AnswerLaws.{answered-refused}
 use Rattle.engine.proofs.EntryLaws.{state-refused}
@@ -16,7 +16,7 @@ refused-requires c κs = search needs
 returns : tie.Need-returns
 returns c =
     let f = c .before .before .state-fits .ensures in
-    rw (c .refused .ensures) (answered-refused _ _ _ (state-refused _ _ _ (sym f ∙ not-true _ (c .before .if1 .taken))))
+    rw (c .refused .ensures) (answered-refused refl (state-refused _ _ _ (sym f ∙ not-true _ (c .before .if1 .taken))))
 
 step-from-requires : tie.Need-step-from-requires
 step-from-requires c κs =
