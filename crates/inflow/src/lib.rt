@@ -8,15 +8,18 @@ use method::Figures;
 use method::FiguresAnswer;
 use weighting::Estimate;
 
-// What the mean of the last rains brings.
+// What the mean of the last rains brings: 5 × sum × area × f / (18 × count), each divisor a constant.
 pub fn mean_rain_inflow(sum: u64, count: u64, area: u64, runoff: u64) -> u64
     requires { ⌜ (sum ≤ 9000) × ((count ≤ 3) × ((area ≤ 400000) × (runoff ≤ 1000))) ⌝ }
     ensures { λ r. ⌜ r ≡ meanRainInflow sum count area runoff ⌝ }
 {
-    if count == 0 {
-        return 0;
+    let whole = 5 * sum * area * runoff;
+    match count {
+        0 => 0,
+        1 => whole / 18,
+        2 => whole / 36,
+        _ => whole / 54,
     }
-    5 * sum * area * runoff / (18 * count)
 }
 
 // The inflow of a basin at a step (lead 0) or at a lead: what its rain brings, and its rain noise.
