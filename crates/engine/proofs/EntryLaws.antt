@@ -103,11 +103,7 @@ module _
   inputs-are = below-same (t .elements) noInput _ _ input-is
 
   pub inputs-fit : InputsFit numbers (t .elements)
-  inputs-fit =
-      record {
-        rain = λ i l. rw (input-is i l) (h .fits record-kept i l .rain);
-        observation = λ i l. rw (input-is i l) (h .fits record-kept i l .observation);
-      }
+  inputs-fit = record { at = λ i l. rw (input-is i l) (h .fits record-kept i l) }
 
 pub record-verdict :
     (t : TableValues) (bytes : List ℕ) {v : Verdict} {numbers : List ℕ}

@@ -5,7 +5,7 @@ use mathlib.Core.Path.{_≡_}
 use Rattle.method.specs.Figures.{FiguresFit}
 use Rattle.table.specs.InUse.{below}
 use Rattle.record.specs.declared.Input.{Input}
-use Rattle.record.specs.Decoded.{noInput, inputIn, ObservationFits}
+use Rattle.record.specs.Decoded.{noInput, inputIn, InputFits}
 use Rattle.state.specs.declared.Rains.{Rains}
 use Rattle.state.specs.declared.State.{State}
 use Rattle.state.specs.States.{placeOf}
@@ -14,10 +14,9 @@ use Rattle.state.specs.States.{placeOf}
 unfoldable pub inputsOf : ℕ → List ℕ → ℕ → Input
 inputsOf n numbers = below n noInput (inputIn numbers)
 
--- rains and observations in their ranges
+-- and each of them in its ranges
 pub record InputsFit (numbers : List ℕ) (n : ℕ) : Type 0 where
-  pub rain : (i : ℕ) → i < n → inputIn numbers i .rain ≤ 3000
-  pub observation : (i : ℕ) → i < n → ObservationFits (inputIn numbers i .observation)
+  pub at : (i : ℕ) → i < n → InputFits (inputIn numbers i)
 
 -- the first n places of a state are under the ceiling
 pub record FiguresUnder (s : State) (n : ℕ) : Type 0 where

@@ -61,7 +61,7 @@ step-course-requires c κs =
     let p = start l .pre .0 in
     let e = element-bounds _ (p .0 .table) (used l) in (
       element-there _ (p .0 .table) (used l),
-      (omega (arith, few l, p .1 .0), (p .1 .1 .rain _ (used l), (e .area, e .runoff))),
+      (omega (arith, few l, p .1 .0), (p .1 .1 .at _ (used l) .rain, (e .area, e .runoff))),
     )
 
 work-element-requires : tie.Need-work-element-requires Inv-loop μ-loop
@@ -77,7 +77,7 @@ work-element-requires c κs =
         element = element-in-range _ t (used l);
         weight = weight-in-range _ _ (p .0 .0) _ (used l);
         lead = omega arith;
-        observation = p .0 .1 .1 .observation _ (used l);
+        observation = p .0 .1 .1 .at _ (used l) .observation;
       };
       fits = figures-in-range _ _ (p .1 .0) _ (used l);
       short = omega arith;
