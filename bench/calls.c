@@ -1,11 +1,13 @@
-/* Times the calls of include/river.h in the proved library against the same calls in plain C.
+/* Times the calls of include/river.h in the proved library against the same calls in plain C, or makes some of them to be counted.
  *
- *   gcc -O3 bench/calls.c bench/plain_calls.c target/staticlib/libcapi.a
- *   calls FILE ROUNDS      FILE holds a table and records, none of which is refused
+ *   gcc -O3 bench/calls.c bench/plain_calls.c target/staticlib/libriver.a
+ *   calls FILE times ROUNDS           FILE holds a table and records, none of which is refused
+ *   calls FILE count CALLS LIBRARY    LIBRARY is 0 for the proved one, 1 for plain C
  *
- * Every call is made by both and the replies must be equal, also of some that are refused. Then both are timed in turn, a round being
- * about a thousandth of a second of processor time. For each entry it prints its name, the medians over the rounds in nanoseconds for a
- * call (library, plain C), the median of the rounds' ratios, and the library's least time.
+ * times: every call is made by both and the replies must be equal, also of some that are refused. Then both are timed in turn, a round
+ * being about a thousandth of a second of processor time (no round: the replies alone). For each entry it prints its name, the medians
+ * over the rounds in nanoseconds for a call (library, plain C), the median of the rounds' ratios, and the library's least time.
+ * count: so many calls of each entry are made by the function count_calls, whose calls bench/run has counted.
  */
 #define _GNU_SOURCE
 #include <stdio.h>
@@ -14,10 +16,20 @@
 #include <time.h>
 #include "../include/river.h"
 
-river_state_reply plain_start(const uint8_t *, size_t, river_state);
-river_state_reply plain_step(const uint8_t *, size_t, const uint8_t *, size_t, river_state);
-river_forecast_reply plain_forecast(const uint8_t *, size_t, river_state, uint64_t *, size_t);
-river_plan plain_prepare(const uint8_t *, size_t);
+river_plan plain_check(const uint8_t *, size_t);
+uint64_t plain_start(const uint8_t *, size_t, river_state *);
+uint64_t plain_step(const uint8_t *, size_t, const uint8_t *, size_t, river_state *);
+river_written plain_forecast(const uint8_t *, size_t, const river_state *, uint64_t *, size_t);
+
+typedef struct {
+    river_plan (*check)(const uint8_t *, size_t);
+    uint64_t (*start)(const uint8_t *, size_t, river_state *);
+    uint64_t (*step)(const uint8_t *, size_t, const uint8_t *, size_t, river_state *);
+    river_written (*forecast)(const uint8_t *, size_t, const river_state *, uint64_t *, size_t);
+} Library;
+
+static const Library libraries[2] = {{river_check, river_start, river_step, river_forecast},
+                                     {plain_check, plain_start, plain_step, plain_forecast}};
 
 enum { MOST_BYTES = 1 << 20, MOST_CALLS = 64, MOST_ROUNDS = 1000 };
 
@@ -36,83 +48,94 @@ static void fail(const char *what)
 
 /* ---- Both must answer alike ---- */
 
+static void same_check(size_t size)
+{
+    river_plan one = river_check(input, size), other = plain_check(input, size);
+    if (memcmp(&one, &other, sizeof one)) fail("the plans differ");
+}
+
+static void same_start(size_t size, river_state *state)
+{
+    river_state other = *state;
+    uint64_t refusal = river_start(input, size, state);
+    if (refusal != plain_start(input, size, &other) || memcmp(state, &other, sizeof other)) fail("the starts differ");
+}
+
 static river_state same_step(const uint8_t *record, size_t size, river_state state)
 {
-    river_state_reply one = river_step(input, table_bytes, record, size, state), other = plain_step(input, table_bytes, record, size, state);
-    if (memcmp(&one, &other, sizeof one)) fail("the steps differ");
-    return one.state;
+    river_state other = state;
+    uint64_t refusal = river_step(input, table_bytes, record, size, &state);
+    if (refusal != plain_step(input, table_bytes, record, size, &other) || memcmp(&state, &other, sizeof other)) fail("the steps differ");
+    return state;
 }
 
-static void same_forecast(river_state state, size_t lent)
+static void same_forecast(const river_state *state, size_t lent)
 {
     memset(numbers, 0x5A, sizeof numbers);
-    river_forecast_reply one = river_forecast(input, table_bytes, state, numbers[0], lent);
-    river_forecast_reply other = plain_forecast(input, table_bytes, state, numbers[1], lent);
+    river_written one = river_forecast(input, table_bytes, state, numbers[0], lent);
+    river_written other = plain_forecast(input, table_bytes, state, numbers[1], lent);
     if (memcmp(&one, &other, sizeof one) || memcmp(numbers[0], numbers[1], sizeof numbers[0])) fail("the forecasts differ");
-}
-
-static void same_start(size_t size)
-{
-    river_state_reply one = river_start(input, size, states[0]), other = plain_start(input, size, states[0]);
-    if (memcmp(&one, &other, sizeof one)) fail("the starts differ");
 }
 
 /* Makes all calls once, which fills `states`. */
 static void compare_calls(void)
 {
-    same_start(table_bytes - 1);
-    same_start(table_bytes);
-    states[0] = river_start(input, table_bytes, states[0]).state;
+    same_check(table_bytes - 1), same_check(table_bytes);
+    same_start(table_bytes - 1, &states[0]), same_start(table_bytes, &states[0]);
     for (size_t k = 0; k < calls; k++) {
         states[k + 1] = same_step(records[k], record_bytes, states[k]);
         if (states[k + 1].steps != k + 1) fail("a record is refused");
-        same_forecast(states[k], RIVER_MOST_NUMBERS);
-        same_forecast(states[k], k);
+        same_forecast(&states[k], RIVER_MOST_NUMBERS);
+        same_forecast(&states[k], k);
         same_step(records[k], record_bytes - 1, states[k]);
         river_state wrong = states[k];
-        wrong.element[0].figures.variance = 4000000001;
+        wrong.place[0].figures.variance = 4000000001;
         same_step(records[k], record_bytes, wrong);
-        same_forecast(wrong, RIVER_MOST_NUMBERS);
+        same_forecast(&wrong, RIVER_MOST_NUMBERS);
     }
 }
 
-/* ---- Times ---- */
-
-typedef struct {
-    river_state_reply (*start)(const uint8_t *, size_t, river_state);
-    river_state_reply (*step)(const uint8_t *, size_t, const uint8_t *, size_t, river_state);
-    river_forecast_reply (*forecast)(const uint8_t *, size_t, river_state, uint64_t *, size_t);
-    river_plan (*prepare)(const uint8_t *, size_t);
-} Library;
+/* ---- Calls by the dozen ---- */
 
 static uint64_t refusals; /* what each call answered is used, so that no call can be left out */
+static river_state moved;
+
+static void check_all(const Library *library)
+{
+    for (size_t k = 0; k < calls; k++) refusals += library->check(input, table_bytes).refusal;
+}
 
 static void start_all(const Library *library)
 {
-    for (size_t k = 0; k < calls; k++) refusals += library->start(input, table_bytes, states[k]).refusal;
+    for (size_t k = 0; k < calls; k++) refusals += library->start(input, table_bytes, &moved);
 }
 
 static void step_all(const Library *library)
 {
-    for (size_t k = 0; k < calls; k++) refusals += library->step(input, table_bytes, records[k], record_bytes, states[k]).refusal;
+    moved = states[0];
+    for (size_t k = 0; k < calls; k++) refusals += library->step(input, table_bytes, records[k], record_bytes, &moved);
 }
 
 static void forecast_all(const Library *library)
 {
     for (size_t k = 0; k < calls; k++)
-        refusals += library->forecast(input, table_bytes, states[k + 1], numbers[0], RIVER_MOST_NUMBERS).refusal;
+        refusals += library->forecast(input, table_bytes, &states[k + 1], numbers[0], RIVER_MOST_NUMBERS).refusal;
 }
 
-static void prepare_all(const Library *library)
+/* A river's calls, of each entry as many. */
+static __attribute__((noinline)) void count_calls(const Library *library, size_t times)
 {
-    for (size_t k = 0; k < calls; k++) refusals += library->prepare(input, table_bytes).refusal;
+    for (size_t k = 0; k < times; k++) {
+        refusals += library->check(input, table_bytes).refusal;
+        refusals += library->start(input, table_bytes, &moved);
+    }
+    for (size_t k = 0; k < times; k++) {
+        refusals += library->step(input, table_bytes, records[k], record_bytes, &moved);
+        refusals += library->forecast(input, table_bytes, &moved, numbers[0], RIVER_MOST_NUMBERS).refusal;
+    }
 }
 
-static void same_plan(size_t size)
-{
-    river_plan one = river_prepare(input, size), other = plain_prepare(input, size);
-    if (memcmp(&one, &other, sizeof one)) fail("the plans differ");
-}
+/* ---- Times ---- */
 
 static double seconds(void)
 {
@@ -141,7 +164,7 @@ static double median(double *each, int count)
     return count % 2 ? each[count / 2] : (each[count / 2 - 1] + each[count / 2]) / 2;
 }
 
-static void print_times(const char *entry, void (*all)(const Library *), const Library *libraries, int rounds)
+static void print_times(const char *entry, void (*all)(const Library *), int rounds)
 {
     static double times[2][MOST_ROUNDS], ratios[MOST_ROUNDS];
     double once = timed(all, &libraries[1], 3) * (double)calls;
@@ -150,7 +173,6 @@ static void print_times(const char *entry, void (*all)(const Library *), const L
         for (int k = 0; k < 2; k++) times[k][round] = timed(all, &libraries[k], passes);
         ratios[round] = times[0][round] / times[1][round];
     }
-    if (refusals) fail("a timed call is refused");
     printf("%s %.0f %.0f %.3f", entry, median(times[0], rounds), median(times[1], rounds), median(ratios, rounds));
     printf(" %.0f\n", times[0][0]); /* median has sorted them */
 }
@@ -179,18 +201,20 @@ static void read_river(const char *path)
 
 int main(int argc, char **argv)
 {
-    int rounds = argc == 3 ? atoi(argv[2]) : 0;
-    if (rounds < 1 || rounds > MOST_ROUNDS) fail("usage: calls FILE ROUNDS");
+    int counted = argc == 5 && !strcmp(argv[2], "count"), times = argc > 3 ? atoi(argv[3]) : -1;
+    if ((!counted && (argc != 4 || strcmp(argv[2], "times"))) || times < 0 || times > MOST_ROUNDS) fail("usage: see bench/calls.c");
     read_river(argv[1]);
-    compare_calls();
-    Library libraries[2] = {{.start = river_start, .step = river_step, .forecast = river_forecast},
-                            {.start = plain_start, .step = plain_step, .forecast = plain_forecast}};
-    print_times("start", start_all, libraries, rounds);
-    print_times("step", step_all, libraries, rounds);
-    print_times("forecast", forecast_all, libraries, rounds);
-    libraries[0].prepare = river_prepare, libraries[1].prepare = plain_prepare;
-    same_plan(table_bytes - 1);
-    same_plan(table_bytes);
-    print_times("prepare", prepare_all, libraries, rounds);
+    if (counted && (size_t)times > calls) fail("too few records");
+    if (counted)
+        count_calls(&libraries[atoi(argv[4]) == 1], (size_t)times);
+    else
+        compare_calls();
+    if (!counted && times > 0) {
+        print_times("check", check_all, times);
+        print_times("start", start_all, times);
+        print_times("step", step_all, times);
+        print_times("forecast", forecast_all, times);
+    }
+    if (refusals) fail("a call is refused");
     return 0;
 }

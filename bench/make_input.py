@@ -4,7 +4,7 @@
     python3 bench/make_input.py [--elements 64] [--gauges 16] [--leads 12] [--steps 1000] [--seed 1]
 
 The river: every second element a basin, which drains into a reach; the reaches form a tree that joins two by two and ends in one outlet.
-Gauges stand on reaches spread over the tree. Rain comes in storms, stages follow smoothly, one stage in ten is a gap.
+A single element is a basin. Gauges stand on reaches spread over the tree. Rain comes in storms, stages follow smoothly, one stage in ten is a gap.
 """
 import argparse
 import sys
@@ -18,7 +18,7 @@ GAP = 65_535
 
 
 def river(random, count, gauge_count, leads):
-    reaches = [number for number in range(1, count + 1) if number % 2 == 0 or number == count]
+    reaches = [number for number in range(2, count + 1) if number % 2 == 0 or number == count]
     below = {}  # reach k drains into the reach about halfway to the outlet: pairs join, then pairs of pairs
     for place, number in enumerate(reaches):
         later = reaches[place + 1:]
@@ -29,7 +29,7 @@ def river(random, count, gauge_count, leads):
             elements.append(dict(kind=2, down=below[number], lag=random.randint(60, 240), first_discharge=random.randint(1, 8_000_000),
                                  first_variance=random.randint(0, 1_000), W=random.randint(1_000, 200_000)))
         else:
-            elements.append(dict(kind=1, down=next(reach for reach in reaches if reach > number), lag=random.randint(120, 600),
+            elements.append(dict(kind=1, down=next((reach for reach in reaches if reach > number), 0), lag=random.randint(120, 600),
                                  area=random.randint(500, 6_000), f=random.randint(300, 900), first_discharge=random.randint(1, 2_000_000),
                                  first_variance=random.randint(0, 100), W=random.randint(100, 20_000), G=random.randint(1_000, 500_000)))
     gauge_count = min(gauge_count, len(reaches))

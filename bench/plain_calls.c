@@ -1,61 +1,65 @@
 /* The calls of include/river.h in plain C, for bench/calls.c: each judges the table's bytes and works out all it needs of them, as the
  * proved ones do.
+ *
+ *   gcc -O3 -c '-DNAMED(call)=river_##call' -o target/plain.o bench/plain_calls.c && python3 tests/calls.py target/plain.o
+ *
+ * tries them in the place of the library.
  */
 #include "river_in_c.h"
 
-river_state_reply plain_start(const uint8_t *table, size_t table_bytes, river_state state)
-{
-    Plan plan;
-    river_state_reply reply = {read_table(&plan, table, table_bytes), state};
-    if (!reply.refusal) set_first_values(&plan, &reply.state);
-    return reply;
-}
+#ifndef NAMED
+#define NAMED(call) plain_##call
+#endif
 
-river_state_reply plain_step(const uint8_t *table, size_t table_bytes, const uint8_t *record, size_t record_bytes, river_state state)
-{
-    Plan plan;
-    river_state_reply reply = {read_table(&plan, table, table_bytes), state};
-    if (!reply.refusal) reply.refusal = judge_state(&plan, &state);
-    if (reply.refusal) return reply;
-    weigh(&plan);
-    reply.refusal = step_state(&plan, record, record_bytes, &state, &reply.state);
-    if (reply.refusal) reply.state = state;
-    return reply;
-}
+uint64_t NAMED(version)(void) { return RIVER_VERSION; }
 
-/* By element, then lead 0 to L. */
-static void write_answer(const Plan *plan, const river_state *state, Figures (*by_lead)[MOST_ELEMENTS], uint64_t *numbers)
+river_plan NAMED(check)(const uint8_t *table, size_t table_bytes)
 {
-    for (u32 i = 0; i < plan->count; i++) {
-        memcpy(numbers, &state->element[i].figures, sizeof(Figures));
-        numbers += 4;
-        for (u32 lead = 1; lead <= plan->leads; lead++, numbers += 4) memcpy(numbers, &by_lead[lead][i], sizeof(Figures));
-    }
-}
-
-river_forecast_reply plain_forecast(const uint8_t *table, size_t table_bytes, river_state state, uint64_t *numbers, size_t numbers_lent)
-{
-    Plan plan;
-    Figures by_lead[MOST_LEADS + 1][MOST_ELEMENTS];
-    river_forecast_reply reply = {read_table(&plan, table, table_bytes), 0};
-    if (!reply.refusal) reply.refusal = judge_state(&plan, &state);
-    if (reply.refusal) return reply;
-    size_t count = 4 * (size_t)plan.count * (plan.leads + 1);
-    if (numbers_lent < count) return (river_forecast_reply){15, 0};
-    weigh(&plan);
-    weigh_leads(&plan);
-    reply.refusal = forecast_leads(&plan, &state, by_lead);
-    if (reply.refusal) return reply;
-    write_answer(&plan, &state, by_lead, numbers);
-    reply.count = count;
-    return reply;
-}
-
-river_plan plain_prepare(const uint8_t *table, size_t table_bytes)
-{
-    Plan plan;
-    u32 refusal = read_table(&plan, table, table_bytes);
+    Table t;
+    u32 refusal = read_table(&t, table, table_bytes);
     if (refusal) return (river_plan){.refusal = refusal};
-    return (river_plan){0, plan.count, plan.leads, plan.gauge_count, plan.basin_count, 3 + 2 * (size_t)(plan.basin_count + plan.gauge_count),
-                        4 * (size_t)plan.count * (plan.leads + 1)};
+    return (river_plan){0, t.count, t.leads, t.gauge_count, t.basin_count, 3 + 2 * (t.basin_count + t.gauge_count),
+                        4 * t.count * (t.leads + 1), t.step_minutes};
+}
+
+uint64_t NAMED(start)(const uint8_t *table, size_t table_bytes, river_state *state)
+{
+    Table t;
+    u32 refusal = read_table(&t, table, table_bytes);
+    if (!refusal) set_first_values(&t, state);
+    return refusal;
+}
+
+uint64_t NAMED(step)(const uint8_t *table, size_t table_bytes, const uint8_t *record, size_t record_bytes, river_state *state)
+{
+    Table t;
+    u64 weights[MOST_PLACES];
+    Reading readings[MOST_GAUGES + 1];
+    Figures space[MOST_PLACES + 1];
+    u32 refusal = read_table(&t, table, table_bytes);
+    if (!refusal) refusal = judge_state(&t, state);
+    if (!refusal && state->steps == MOST_STEPS) refusal = 9;
+    if (!refusal) refusal = judge_record(&t, record, record_bytes, readings);
+    if (refusal) return refusal;
+    weigh(&t, weights);
+    if (step_elements(&t, weights, record + 3, readings, state, space)) return 16;
+    set_next_values(&t, record + 3, space, state);
+    return 0;
+}
+
+river_written NAMED(forecast)(const uint8_t *table, size_t table_bytes, const river_state *state, uint64_t *numbers, size_t numbers_lent)
+{
+    Table t;
+    u64 weights[MOST_PLACES];
+    Figures space[(MOST_PLACES + 1) * (MOST_LEADS + 1)];
+    u32 refusal = read_table(&t, table, table_bytes);
+    if (!refusal) refusal = judge_state(&t, state);
+    if (refusal) return (river_written){refusal, 0};
+    size_t count = 4 * t.count * (t.leads + 1);
+    if (numbers_lent < count) return (river_written){15, 0};
+    weigh(&t, weights);
+    refusal = forecast_elements(&t, weights, NULL, state, space);
+    if (refusal) return (river_written){refusal, 0};
+    memcpy(numbers, space + t.leads + 1, sizeof *numbers * count);
+    return (river_written){0, count};
 }

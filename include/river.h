@@ -1,13 +1,13 @@
 /* The proved engine of the river cabinet for programs in C: document 01's entries on memory that the host owns.
  *
- *   rt staticlib capi                                        writes target/staticlib/libcapi.a
- *   gcc -Iinclude program.c target/staticlib/libcapi.a       links it (x86-64 Linux)
+ *   rt staticlib river                                       writes target/staticlib/libriver.a
+ *   gcc -Iinclude program.c target/staticlib/libriver.a      links it (x86-64 Linux)
  *
- * Every call checks all that it is given and answers by document 01: refusal is 0 where the call is accepted, else the number for
- * no (1 to 16). No call keeps anything or allocates memory, so any number of rivers and threads can call at a time; a call takes up
- * to 128 KB of its thread's stack.
+ * Every call checks all that it is given and answers by document 01: 0 where it is accepted, else the lowest number for no that applies.
+ * A refused call leaves the state and the lent numbers as they were. No call keeps anything or allocates memory, so any number of rivers
+ * and threads can call at a time; a call takes up to 32 KB of its thread's stack.
  * A pointer must be valid for as many bytes or numbers as the length after it says, must not be null (also where the length is 0), and
- * what is lent to be written must not overlap what is lent to be read.
+ * what a call writes (the state of a start or a step, the numbers of a forecast) must not overlap anything else that it is given.
  *
  * Discharges and their margins are in grains of 0.000001 m3/s, variances and theirs in 0.001 (m3/s)^2.
  */
@@ -21,7 +21,33 @@
 extern "C" {
 #endif
 
-enum { RIVER_MOST_ELEMENTS = 64, RIVER_MOST_LEADS = 12, RIVER_MOST_NUMBERS = 4 * 64 * 13 };
+/* The version of this header. At its start a host compares it with the library's own, river_version(), and makes no other call where they
+ * differ: an object compiled with an old header would hand a new library its memory in another shape. */
+#define RIVER_VERSION 2
+
+enum { RIVER_MOST_PLACES = 64, RIVER_MOST_LEADS = 12, RIVER_MOST_GAUGES = 16 };
+enum { RIVER_MOST_NUMBERS = 4 * RIVER_MOST_PLACES * (RIVER_MOST_LEADS + 1) };
+
+/* Document 01's numbers for no, in checking order. C is 4,000,000,000, the ceiling of every figure. */
+enum {
+    RIVER_ACCEPTED = 0,
+    RIVER_REFUSED_TABLE_LENGTH = 1,     /* the table has under 10 bytes, or its length field is not the count of bytes after it */
+    RIVER_REFUSED_TABLE_VERSION = 2,    /* the table's version is not 1 */
+    RIVER_REFUSED_TABLE_COUNTS = 3,     /* T, L, N or M is out of range */
+    RIVER_REFUSED_TABLE_SIZE = 4,       /* the table's length field does not fit N and M */
+    RIVER_REFUSED_ELEMENT_FIELD = 5,    /* an element's kind or any field but down is out of range */
+    RIVER_REFUSED_ELEMENT_DOWN = 6,     /* a down is neither 0 nor a later element, or it names a basin */
+    RIVER_REFUSED_GAUGE_FIELD = 7,      /* a gauge field is out of range or out of order */
+    RIVER_REFUSED_STATE_RANGE = 8,      /* the state has another N, a step count above 10,000, a figure above C or a rain above 3,000 */
+    RIVER_REFUSED_STEP_LIMIT = 9,       /* the state's step count is 10,000 already */
+    RIVER_REFUSED_RECORD_LENGTH = 10,   /* the record's bytes, its length field or both do not fit the table */
+    RIVER_REFUSED_RECORD_VERSION = 11,  /* the record's version is not 1 */
+    RIVER_REFUSED_RAIN_RANGE = 12,      /* a rain is above 3,000 */
+    RIVER_REFUSED_STAGE_RANGE = 13,     /* a stage is above 30,000 and not 65535, which is a gap */
+    RIVER_REFUSED_READING_RANGE = 14,   /* a stage lies below its curve, or the curve gives more than C */
+    RIVER_REFUSED_ANSWER_SPACE = 15,    /* fewer numbers are lent than the forecast has */
+    RIVER_REFUSED_ABOVE_CEILING = 16    /* some figure of this call, or a number on the way to it, would pass C */
+};
 
 /* What a figure is and how far it may lie from the run in exact fractions. */
 typedef struct {
@@ -32,45 +58,62 @@ typedef struct {
 typedef struct {
     river_figures figures;
     uint64_t rain[3];
-} river_element;
+} river_place;
 
-/* A river's state: its elements, accepted steps, and a place for each element. Before a start it may hold anything. */
+/* A river's state, 450 numbers: N, accepted steps, and a place for each element; place[0] is element 1. Before a start it may hold
+ * anything. Places beyond the first N and the rains of reaches are neither read nor changed.
+ * A state may be stored and given back later with the same table: the run then goes on, also in another process after a power cut. */
 typedef struct {
-    size_t elements;
-    uint64_t steps;
-    river_element element[RIVER_MOST_ELEMENTS];
+    uint64_t elements, steps;
+    river_place place[RIVER_MOST_PLACES];
 } river_state;
 
-/* What a table asks the host to lend: its counts, the bytes of a step record and the numbers of a forecast; all 0 where the table is refused. */
+#if defined(__cplusplus) && __cplusplus >= 201103L
+static_assert(sizeof(river_state) == 8 * (2 + 7 * RIVER_MOST_PLACES), "a state is 450 numbers of 8 bytes");
+#elif defined(__STDC_VERSION__) && __STDC_VERSION__ >= 201112L
+_Static_assert(sizeof(river_state) == 8 * (2 + 7 * RIVER_MOST_PLACES), "a state is 450 numbers of 8 bytes");
+#else
+typedef char river_state_is_450_numbers[sizeof(river_state) == 8 * (2 + 7 * RIVER_MOST_PLACES) ? 1 : -1];
+#endif
+
+/* What a table asks the host to lend: its counts, the bytes of a step record, the numbers of a forecast, and T, the minutes of a step;
+ * all 0 but the refusal where the table is refused. */
 typedef struct {
     uint64_t refusal;
     size_t elements, leads, gauges, basins, record_bytes, forecast_numbers;
+    uint64_t step_minutes;
 } river_plan;
-
-/* The state after a call, which is the state before it where the call is refused. */
-typedef struct {
-    uint64_t refusal;
-    river_state state;
-} river_state_reply;
 
 /* How many numbers a forecast has written; 0 where it is refused. */
 typedef struct {
     uint64_t refusal;
     size_t count;
-} river_forecast_reply;
+} river_written;
 
-/* Judges a table by rules 1 to 7. */
-river_plan river_prepare(const uint8_t *table, size_t table_bytes);
+/* The version of the library that is linked: RIVER_VERSION of its own header. */
+uint64_t river_version(void);
 
-/* Starts a river from any state: rules 1 to 7. */
-river_state_reply river_start(const uint8_t *table, size_t table_bytes, river_state state);
+/* Judges a table by rules 1 to 7 and tells what it asks for. */
+river_plan river_check(const uint8_t *table, size_t table_bytes);
 
-/* A step on a record: rules 1 to 14 and 16. */
-river_state_reply river_step(const uint8_t *table, size_t table_bytes, const uint8_t *record, size_t record_bytes, river_state state);
+/* Starts a river, whatever its state held: rules 1 to 7. */
+uint64_t river_start(const uint8_t *table, size_t table_bytes, river_state *state);
 
-/* A forecast: rules 1 to 8, 15 and 16. By element, then lead 0 (the state) to L, it writes discharge, margin, variance and variance
- * margin into numbers; what lies after these stays, and all of it where the call is refused. */
-river_forecast_reply river_forecast(const uint8_t *table, size_t table_bytes, river_state state, uint64_t *numbers, size_t numbers_lent);
+/* A step of the state on a record: rules 1 to 14 and 16. */
+uint64_t river_step(const uint8_t *table, size_t table_bytes, const uint8_t *record, size_t record_bytes, river_state *state);
+
+/* A forecast from the state, which stays: rules 1 to 8, 15 and 16. By element, then lead 0 (the state) to L, it writes discharge, margin,
+ * variance and variance margin: those of element e (from 1) at lead l (from 0) begin at numbers[4 * ((e - 1) * (leads + 1) + l)]. What
+ * lies after the last of them stays. */
+river_written river_forecast(const uint8_t *table, size_t table_bytes, const river_state *state, uint64_t *numbers, size_t numbers_lent);
+
+/* The figures of an element (from 1) at a lead (from 0) in the numbers of a forecast. */
+static inline river_figures river_figures_at(const uint64_t *numbers, size_t leads, size_t element, size_t lead)
+{
+    const uint64_t *at = numbers + 4 * ((element - 1) * (leads + 1) + lead);
+    river_figures figures = {at[0], at[1], at[2], at[3]};
+    return figures;
+}
 
 #ifdef __cplusplus
 }

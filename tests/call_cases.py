@@ -18,12 +18,12 @@ ROOM_FOR_ALL = 4 * 64 * 13
 @dataclass(frozen=True)
 class Call:
     name: str
-    entry: str  # start, step, forecast or prepare
+    entry: str  # start, step, forecast, check or version
     table: bytes
     state: State
     record: bytes = b""
     lent: tuple = ()  # the lent numbers before the call
-    side: int = 0  # 0: bytes and numbers stand right before a page without access, 1: right after one
+    side: int = 0  # 0: bytes, state and numbers stand right before a page without access, 1: right after one
 
 
 @dataclass
@@ -555,18 +555,24 @@ def entry_calls():
 # ---- The list ----------------------------------------------------------------------------------------------------------------------------
 
 
-def prepare_calls(random):
+def check_calls(random):
     """The plan of tables of every kind, for as many elements, leads and gauges as there can be."""
     nothing = noise_state(random)
     for count, leads, gauge_count in ((1, 1, 0), (2, 12, 2), (64, 1, 16), (64, 12, 0), (5, 3, 5)):
         table = some_table(random, count, random.choice(SHAPES), "typical", leads=leads, gauge_count=gauge_count)
-        yield Call(f"N {count}, L {leads}, M {gauge_count}", "prepare", table_bytes(table), nothing, side=random.randrange(2))
+        yield Call(f"N {count}, L {leads}, M {gauge_count}", "check", table_bytes(table), nothing, side=random.randrange(2))
     for size in range(len(SMALL) + 1):
-        yield Call(f"table cut at {size}", "prepare", SMALL[:size], nothing, side=random.randrange(2))
+        yield Call(f"table cut at {size}", "check", SMALL[:size], nothing, side=random.randrange(2))
     for _, edit in rule_edits():
         table = small_table()
         edit(table, list(SMALL_RECORDS))
-        yield Call("edited", "prepare", table_bytes(table), nothing)
+        yield Call("edited", "check", table_bytes(table), nothing)
+    for T in (1, 2, 255, 256, 257, 1_439, 1_440):
+        yield Call(f"T {T}", "check", table_bytes(dict(T=T, L=1, elements=[basin(lag=1_440)], gauges=[])), nothing)
+
+
+def version_calls(random):
+    yield Call("version", "version", b"", noise_state(random))
 
 
 def ceiling_cases():
@@ -597,5 +603,5 @@ def cases():
                                ("random, 64 elements", random_calls(64), 24), ("noise", noise_calls, 60)):
         found += [Case(name, build) for _ in range(count)]
     found += [Case("run", run_calls(), exact=True) for _ in range(40)] + [Case("run of 12", run_calls(12), exact=True) for _ in range(2)]
-    found.append(Case("prepare", prepare_calls))
+    found += [Case("check", check_calls), Case("version", version_calls)]
     return found

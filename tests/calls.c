@@ -1,14 +1,14 @@
 /* Makes the calls of include/river.h that tests/calls.py sends on standard input and writes what comes back.
  *
- *   gcc -O2 -Iinclude tests/calls.c target/staticlib/libcapi.a
+ *   gcc -O2 -Iinclude tests/calls.c target/staticlib/libriver.a
  *
  * A call: five numbers of 8 bytes in the machine's order (entry, side, bytes of table, bytes of record, numbers lent), then the table's
  * bytes, the record's bytes, the 450 numbers of the state and the lent numbers. A reply: refusal, count, whether all that the
- * host keeps stayed as it was, how many numbers follow, and these: the 450 of the state (start, step), all that were lent (forecast), or
- * the plan's six after its refusal (prepare).
+ * host keeps stayed as it was, how many numbers follow, and these: the 450 of the state afterwards (start, step), all that were lent
+ * (forecast), the plan's seven after its refusal (check), or the library's version and the header's (version).
  *
- * Table, record and lent numbers each end where a page without access begins (side 0) or begin where one ends (side 1), so that a read
- * or write past that end ends this program by a signal.
+ * Table, record, state and lent numbers each end where a page without access begins (side 0) or begin where one ends (side 1), so that a
+ * read or write past that end ends this program by a signal; so does a write into what a call is given to read alone.
  */
 #define _GNU_SOURCE
 #include <stdio.h>
@@ -17,7 +17,7 @@
 #include <sys/mman.h>
 #include "river.h"
 
-enum { START = 1, STEP = 2, FORECAST = 3, PREPARE = 4 };
+enum { START = 1, STEP = 2, FORECAST = 3, CHECK = 4, VERSION = 5 };
 enum { PAGE = 4096, ROOM = 128 * 1024, MARK = 0xA5, STATE_NUMBERS = 450 };
 _Static_assert(sizeof(river_state) == 8 * STATE_NUMBERS, "a state is 450 numbers");
 
@@ -34,20 +34,27 @@ static void make_room(Lent *lent)
     lent->room = all + PAGE;
 }
 
+static void allow(const Lent *lent, int access)
+{
+    if (mprotect(lent->room, ROOM, access)) exit(2);
+}
+
 static void read_whole(void *into, size_t size)
 {
     if (size && fread(into, 1, size, stdin) != size) exit(2);
 }
 
-/* Fills the room with marks and puts the next `size` bytes of standard input at one end of it. */
-static void take(Lent *lent, size_t size, int side)
+/* Fills the room with marks and puts the next `size` bytes of standard input at one end of it; `access` is what the call may do there. */
+static void take(Lent *lent, size_t size, int side, int access)
 {
     if (size > ROOM) exit(2);
+    allow(lent, PROT_READ | PROT_WRITE);
     lent->size = size;
     lent->at = side ? lent->room : lent->room + ROOM - size;
     memset(lent->room, MARK, ROOM);
     read_whole(lent->at, size);
     memcpy(lent->copy, lent->room, ROOM);
+    allow(lent, access);
 }
 
 /* Whether all of the room is as before, or all but the lent part. */
@@ -67,48 +74,52 @@ static void reply(uint64_t refusal, uint64_t count, uint64_t kept, uint64_t size
     fflush(stdout);
 }
 
-static Lent table, record, numbers;
-static river_state state, state_before;
+static Lent table, record, state, numbers;
 
-static int host_memory_stayed(void)
-{
-    return stayed(&table) && stayed(&record) && stayed_around(&numbers) && !memcmp(&state, &state_before, sizeof state);
-}
+static int inputs_stayed(void) { return stayed(&table) && stayed(&record); }
 
 static void state_call(uint64_t entry)
 {
-    river_state_reply got = entry == START ? river_start(table.at, table.size, state)
-                                           : river_step(table.at, table.size, record.at, record.size, state);
-    reply(got.refusal, 0, host_memory_stayed() && stayed(&numbers), STATE_NUMBERS, &got.state);
+    river_state *at = (river_state *)state.at;
+    uint64_t refusal = entry == START ? river_start(table.at, table.size, at)
+                                      : river_step(table.at, table.size, record.at, record.size, at);
+    reply(refusal, 0, inputs_stayed() && stayed_around(&state) && stayed(&numbers), STATE_NUMBERS, at);
 }
 
 static void forecast_call(void)
 {
-    river_forecast_reply got = river_forecast(table.at, table.size, state, (uint64_t *)numbers.at, numbers.size / 8);
-    reply(got.refusal, got.count, host_memory_stayed(), numbers.size / 8, numbers.at);
+    river_written got = river_forecast(table.at, table.size, (river_state *)state.at, (uint64_t *)numbers.at, numbers.size / 8);
+    reply(got.refusal, got.count, inputs_stayed() && stayed(&state) && stayed_around(&numbers), numbers.size / 8, numbers.at);
 }
 
-static void prepare_call(void)
+static void check_call(void)
 {
-    river_plan got = river_prepare(table.at, table.size);
-    uint64_t plan[6] = {got.elements, got.leads, got.gauges, got.basins, got.record_bytes, got.forecast_numbers};
-    reply(got.refusal, 0, host_memory_stayed() && stayed(&numbers), 6, plan);
+    river_plan got = river_check(table.at, table.size);
+    uint64_t plan[7] = {got.elements, got.leads, got.gauges, got.basins, got.record_bytes, got.forecast_numbers, got.step_minutes};
+    reply(got.refusal, 0, inputs_stayed() && stayed(&state) && stayed(&numbers), 7, plan);
+}
+
+static void version_call(void)
+{
+    uint64_t versions[2] = {river_version(), RIVER_VERSION};
+    reply(0, 0, inputs_stayed() && stayed(&state) && stayed(&numbers), 2, versions);
 }
 
 int main(void)
 {
     uint64_t head[5];
-    make_room(&table), make_room(&record), make_room(&numbers);
+    make_room(&table), make_room(&record), make_room(&state), make_room(&numbers);
     while (fread(head, 8, 5, stdin) == 5) {
-        take(&table, head[2], head[1] == 1);
-        take(&record, head[3], head[1] == 1);
-        read_whole(&state, sizeof state);
-        state_before = state;
-        take(&numbers, 8 * head[4], head[1] == 1);
+        int side = head[1] == 1, moves = head[0] == START || head[0] == STEP, writes = PROT_READ | PROT_WRITE;
+        take(&table, head[2], side, PROT_READ);
+        take(&record, head[3], side, PROT_READ);
+        take(&state, sizeof(river_state), side, moves ? writes : PROT_READ);
+        take(&numbers, 8 * head[4], side, head[0] == FORECAST ? writes : PROT_READ);
         switch (head[0]) {
         case START: case STEP: state_call(head[0]); break;
         case FORECAST: forecast_call(); break;
-        case PREPARE: prepare_call(); break;
+        case CHECK: check_call(); break;
+        case VERSION: version_call(); break;
         default: return 2;
         }
     }

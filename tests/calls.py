@@ -1,13 +1,13 @@
 #!/usr/bin/env python3
 """Tries the C interface (include/river.h) on generated calls and compares every number of every reply with the calculator's.
 
-    rt staticlib capi
+    rt staticlib river
     python3 tests/calls.py [--seed S] [--only K] [library]
 
-The library is target/staticlib/libcapi.a unless another path is given; tests/calls.c is linked with it (gcc) and makes the calls. Compared
-are the refusal, all 450 numbers of the state or the count and all lent numbers, and whether the host's own memory stayed as it was. Runs
-from a start are judged by the run in fractions too. The last line is "calls: N calls in M cases, F failed"; the exit code is 0 only where
-none failed. A failed case can be made again by its seed and number.
+The library is target/staticlib/libriver.a unless another path is given; tests/calls.c is linked with it (gcc) and makes the calls. Compared
+are the refusal, all 450 numbers of the lent state or the count and all lent numbers, and whether the host's own memory stayed as it was.
+Runs from a start are judged by the run in fractions too. The last line is "calls: N calls in M cases, F failed"; the exit code is 0 only
+where none failed. A failed case can be made again by its seed and number.
 """
 import argparse
 import subprocess
@@ -23,7 +23,8 @@ from calculator.whole_numbers import RULES, Refused, decode_table
 from inputs import random_for
 
 ROOT = Path(__file__).resolve().parent.parent
-ENTRIES = {"start": 1, "step": 2, "forecast": 3, "prepare": 4}
+ENTRIES = {"start": 1, "step": 2, "forecast": 3, "check": 4, "version": 5}
+VERSION = 2  # of the interface
 MOST_SHOWN = 20  # failed cases that are told of
 TIME_LIMIT = 60  # seconds for all calls
 
@@ -33,7 +34,7 @@ class Reply:
     refusal: int
     count: int  # numbers written by a forecast
     kept: int  # 1: all that the host keeps stayed as it was
-    numbers: array  # the state's, all that were lent, or the plan's
+    numbers: array  # the state's afterwards, all that were lent, the plan's, or the versions of library and header
 
 
 def state_numbers(state):
@@ -59,7 +60,7 @@ class Library:
     def refused(self, call, number):
         if call.entry == "forecast":
             return Reply(number, 0, 1, array("Q", call.lent))
-        return Reply(number, 0, 1, state_numbers(call.state) if call.entry != "prepare" else array("Q", [0] * 6))
+        return Reply(number, 0, 1, state_numbers(call.state) if call.entry != "check" else array("Q", [0] * 7))
 
     def start(self, call):
         return Reply(0, 0, 1, state_numbers(self.rules.start(call.table, call.state)))
@@ -71,10 +72,14 @@ class Library:
         count, numbers = self.rules.forecast(call.table, call.state, call.lent)
         return Reply(0, count, 1, array("Q", numbers))
 
-    def prepare(self, call):
+    def check(self, call):
         table = decode_table(call.table)
         count, leads, gauges, basins = len(table.elements), table.leads, len(table.gauges), table.basins
-        return Reply(0, 0, 1, array("Q", (count, leads, gauges, basins, 3 + 2 * basins + 2 * gauges, 4 * count * (leads + 1))))
+        return Reply(0, 0, 1, array("Q", (count, leads, gauges, basins, 3 + 2 * basins + 2 * gauges, 4 * count * (leads + 1),
+                                          table.step_minutes)))
+
+    def version(self, call):
+        return Reply(0, 0, 1, array("Q", (VERSION, VERSION)))
 
 
 # ---- The built library -------------------------------------------------------------------------------------------------------------------
@@ -112,10 +117,10 @@ def driver_output(driver, calls):
         return expired.output or b""
 
 
-def made_calls(driver, calls):
-    """The reply to each call; None for one that ended the driver, which is then started again (not more often than failures are shown)."""
+def made_calls(driver, calls, starts=MOST_SHOWN):
+    """The reply to each call; None for one that ended the driver, which is then started again, and for all after its last start."""
     replies = []
-    for _ in range(MOST_SHOWN):
+    for _ in range(starts):
         replies += replies_in(driver_output(driver, calls[len(replies):]))
         if len(replies) >= len(calls):
             return replies
@@ -206,12 +211,12 @@ def try_cases(driver, chosen, seed, shown):
 
 def main():
     parser = argparse.ArgumentParser(description=__doc__, formatter_class=argparse.RawDescriptionHelpFormatter)
-    parser.add_argument("library", nargs="?", default=str(ROOT / "target/staticlib/libcapi.a"))
+    parser.add_argument("library", nargs="?", default=str(ROOT / "target/staticlib/libriver.a"))
     parser.add_argument("--seed", type=int, default=1)
     parser.add_argument("--only", type=int, help="the case of this number alone, with all its numbers")
     options = parser.parse_args()
     if not Path(options.library).is_file():
-        sys.exit(f"{options.library} is not there; build it by `rt staticlib capi`")
+        sys.exit(f"{options.library} is not there; build it by `rt staticlib river`")
     started = time.perf_counter()
     chosen = list(enumerate(cases()))
     if options.only is not None:

@@ -7,8 +7,11 @@ For each mutant the checks of judge.py that caught it are printed with the count
 "mutants: N tried, F not caught". Each is tried on some dozens of generated.py's quick inputs; on the slow ones (10,000 steps, 100,000
 records) only where these do not catch it, and on the other small ones last.
 
-Wrong libraries in the place of the C interface follow, which the comparison of calls.py must catch; with --libraries these alone.
+Wrong libraries in the place of the C interface follow, which the comparison of calls.py must catch; with --libraries these alone. The last
+of them are in C: bench/plain_calls.c, which must pass as it stands, with one place changed; these wrong ones touch memory that is not
+theirs (needs gcc).
 """
+import subprocess
 import sys
 from array import array
 from dataclasses import replace
@@ -17,7 +20,7 @@ from calculator import whole_numbers
 from calculator.program import Program, run
 from calculator.whole_numbers import BASIN, CEILING, GAP, HIGHEST_STAGE, SCALE, Figures, Refused, Rules, State, decode_table, number_at
 from call_cases import Watched, cases
-from calls import Library, compare
+from calls import ROOT, Library, built_driver, compare, made_calls
 from inputs import SHAPES, inputs, random_for
 from judge import judge
 
@@ -404,11 +407,11 @@ class CountThoughRefused(Library):
         return replace(super().refused(call, number), count=len(call.lent) if number in (15, 16) else 0)
 
 
-class HostStateChanged(Library):
-    """The step's new state written into the host's own too."""
+class ForecastMovesState(Library):
+    """A forecast that works in the host's state."""
 
-    def step(self, call):
-        return replace(super().step(call), kept=0)
+    def forecast(self, call):
+        return replace(super().forecast(call), kept=0)
 
 
 class RoomOneShort(Library):
@@ -435,11 +438,108 @@ class RefusedStateMoved(Library):
         return reply
 
 
+class RefusedRainsMoved(Library):
+    """A basin's rains are moved before rule 16 is known."""
+
+    def refused(self, call, number):
+        reply = super().refused(call, number)
+        if call.entry == "step" and number == 16 and decode_table(call.table).elements[0].kind == BASIN:
+            reply.numbers[6:9] = array("Q", (number_at(call.record, 3, 2), *call.state.rains[0][:2]))
+        return reply
+
+
+class RefusedStepBegun(Library):
+    """The new figures of element 1 are in the state before rule 16 is known of the others."""
+
+    def refused(self, call, number):
+        reply = super().refused(call, number)
+        if call.entry == "step" and number == 16:
+            table = decode_table(call.table)
+            element, rain = table.elements[0], number_at(call.record, 3, 2)
+            inflow = self.rules.step_rain_inflow(element, rain) if element.kind == BASIN else Figures(0, 0, 0, 0)
+            try:
+                weight = self.rules.weight(table.step_minutes, element.lag)
+                reply.numbers[2:6] = array("Q", self.rules.move(element, weight, call.state.figures[0], inflow).numbers())
+            except Refused:
+                pass
+        return reply
+
+
+class RefusedStartBegun(Library):
+    """A start sets N and the step count before rule 7 is known."""
+
+    def refused(self, call, number):
+        reply = super().refused(call, number)
+        if call.entry == "start" and number == 7:
+            reply.numbers[:2] = array("Q", (call.table[8], 0))
+        return reply
+
+
 class PlacesBeyondCleared(Library):
     def step(self, call):
         reply = super().step(call)
         at = 2 + 7 * call.state.count
         reply.numbers[at:] = array("Q", [0] * (450 - at))
+        return reply
+
+
+class StartClearsBeyond(Library):
+    def start(self, call):
+        reply = super().start(call)
+        at = 2 + 7 * call.table[8]
+        reply.numbers[at:] = array("Q", [0] * (450 - at))
+        return reply
+
+
+class NextPlaceWritten(Library):
+    """What leaves the river stands in the place after the last element's."""
+
+    def step(self, call):
+        reply = super().step(call)
+        at = 2 + 7 * call.state.count
+        if at < 450:
+            reply.numbers[at:at + 4] = reply.numbers[at - 7:at - 3]
+        return reply
+
+
+class StepKeepsRains(Library):
+    def step(self, call):
+        reply = super().step(call)
+        for place, rains in enumerate(call.state.rains):
+            reply.numbers[6 + 7 * place:9 + 7 * place] = array("Q", rains)
+        return reply
+
+
+class CountsThoughRefused(Library):
+    """A refused check gives the counts all the same."""
+
+    def refused(self, call, number):
+        reply = super().refused(call, number)
+        if call.entry == "check" and number > 3:
+            reply.numbers[:3] = array("Q", (call.table[8], call.table[7], call.table[9]))
+        return reply
+
+
+class NoMinutes(Library):
+    def check(self, call):
+        reply = super().check(call)
+        reply.numbers[6] = 0
+        return reply
+
+
+class LowByteOfMinutes(Library):
+    def check(self, call):
+        reply = super().check(call)
+        reply.numbers[6] %= 256
+        return reply
+
+
+class OldVersion(Library):
+    """A library of version 1 with a header of version 2."""
+
+    def version(self, call):
+        reply = super().version(call)
+        reply.numbers[0] -= 1
         return reply
 
 
@@ -552,18 +652,77 @@ def libraries():
         yield f"CeilingOf {name}, C + 1 taken", Library(CeilingOf(name, CEILING + 1))
 
 
+# What stands once in bench/plain_calls.c or bench/river_in_c.h, and what a wrong library has in its place.
+STEPPED, FORECAST = "    set_next_values(&t, record + 3, space, state);\n", "    memcpy(numbers, space + t.leads + 1, sizeof *numbers * count);\n"
+WRITTEN = "    refusal = forecast_elements(&t, weights, NULL, state, space);\n"
+WRONG_IN_C = {
+    "a step writes after the state": (STEPPED, STEPPED + "    state[1].elements = 0;\n"),
+    "a step writes before the state": (STEPPED, STEPPED + "    ((u64 *)state)[-1] = 0;\n"),
+    "a start writes after the state": ("set_first_values(&t, state);", "set_first_values(&t, state), state[1].elements = 0;"),
+    "a start clears the whole state": ("set_first_values(&t, state);", "memset(state, 0, sizeof *state), set_first_values(&t, state);"),
+    "a step writes the place after the last": ("place->figures = space[i + 1];", "place->figures = place[1].figures = space[i + 1];"),
+    "a step moves the rains of reaches": ("        if (e[KIND] != BASIN) continue;\n", ""),
+    "a step refused by 16 has moved the state": ("space)) return 16;\n" + STEPPED,
+                                                 "space)) refusal = 16;\n" + STEPPED + "    if (refusal) return 16;\n"),
+    "a step writes into its record": (STEPPED, STEPPED + "    ((u8 *)record)[2] = 1;\n"),
+    "a check writes into its table what stands there": ("(&t, table, table_bytes);\n    if (refusal) return (river_plan)",
+                                                        "(&t, table, table_bytes);\n    if (!refusal) *(volatile u8 *)table = table[0];\n"
+                                                        "    if (refusal) return (river_plan)"),
+    "a forecast writes into the state what stands there": (WRITTEN, WRITTEN + "    *(volatile u64 *)state = t.count;\n"),
+    "a forecast refused by 16 has written": (WRITTEN, WRITTEN + FORECAST),
+    "a forecast clears all that is lent": (FORECAST, "    memset(numbers, 0, sizeof *numbers * numbers_lent);\n" + FORECAST),
+    "a forecast writes after what is lent": (FORECAST, FORECAST + "    numbers[numbers_lent] = 0;\n"),
+    "a forecast writes before what is lent": (FORECAST, FORECAST + "    numbers[-1] = 0;\n"),
+    "rule 8 looks at the place after the last": ("i < t->count; i++, e += ELEMENT_BYTES) {\n        const Figures *f",
+                                                 "i <= t->count; i++, e += ELEMENT_BYTES) {\n        const Figures *f"),
+    "rule 1 reads ten bytes of any table": ("if (size < HEADER || be4(table) != size - 4) return 1;",
+                                            "if (table[9] > 255 || be4(table) != size - 4 || size < HEADER) return 1;"),
+    "rule 10 reads two bytes of any record": ("if (size < 3 || be2(record) != size - 2 ||", "if (be2(record) != size - 2 || size < 3 ||"),
+    "a step's space is kept from call to call": ("    Figures space[MOST_PLACES + 1];\n", "    static Figures space[MOST_PLACES + 1];\n",
+                                                 "    memset(space, 0, sizeof *space * (t->count + 1)); /*", "    /*"),
+    "an old library": ("return RIVER_VERSION;", "return RIVER_VERSION - 1;"),
+}
+
+
+def library_in_c(name, changes):
+    """The object file of bench/plain_calls.c with these places changed."""
+    folder = ROOT / "target/tests" / name.replace(" ", "_")
+    folder.mkdir(parents=True, exist_ok=True)
+    texts = {file: (ROOT / "bench" / file).read_text() for file in ("plain_calls.c", "river_in_c.h")}
+    for old, new in zip(changes[::2], changes[1::2]):
+        assert sum(text.count(old) for text in texts.values()) == 1, f"{name}: {old!r} does not stand once in bench/"
+        texts = {file: text.replace(old, new) for file, text in texts.items()}
+    for file, text in texts.items():
+        (folder / file).write_text(text)
+    command = ["gcc", "-O1", "-w", "-c", "-DNAMED(call)=river_##call", f"-I{ROOT / 'bench'}", "-o", folder / "library.o"]
+    subprocess.run([*command, folder / "plain_calls.c"], check=True)
+    return folder / "library.o"
+
+
 def caught_libraries():
-    """By name of a wrong library: the first case of calls.py whose comparison catches it, and how many were tried."""
+    """By name of a wrong library: the first case of calls.py whose comparison catches it, and its place among the cases."""
     right, built = Library(), []
     for number, case in enumerate(cases()):
         calls = list(case.build(random_for(SEED, number)))
         built.append((replace(case, exact=False), calls, [right.reply(call) for call in calls]))
+
+    def first_caught(reply_to):
+        for place, (case, calls, expected) in enumerate(built, 1):
+            if compare(case, calls, expected, [reply_to(call) for call in calls])[0]:
+                return case.name, place
+        return "NOT CAUGHT", len(built)
+
+    def first_caught_in_c(name, changes):
+        driver = built_driver(library_in_c(name, changes))
+        replies = iter(made_calls(driver, [call for _, calls, _ in built for call in calls], starts=1))
+        return first_caught(lambda _: next(replies))
+
     for name, wrong in libraries():
-        for used, (case, calls, expected) in enumerate(built, 1):
-            found, _ = compare(case, calls, expected, [wrong.reply(call) for call in calls])
-            if found:
-                break
-        yield name, case.name if found else "NOT CAUGHT", used
+        yield name, *first_caught(wrong.reply)
+    if first_caught_in_c("as it stands", ())[0] != "NOT CAUGHT":
+        sys.exit("bench/plain_calls.c as it stands is caught; see tests/calls.py")
+    for name, changes in WRONG_IN_C.items():
+        yield f"in C, {name}", *first_caught_in_c(name, changes)
 
 
 def mutants():

@@ -12,29 +12,33 @@ static uint64_t numbers[RIVER_MOST_NUMBERS]; /* lent to each forecast */
 static river_state river;                    /* before the start it may hold anything */
 
 /* Grains of 0.000001 m3/s, exactly; a margin stands beside each discharge. */
-static void print_discharge(const uint64_t *figures)
+static void print_discharge(river_figures figures)
 {
-    printf("%" PRIu64 ".%06" PRIu64 " m3/s", figures[0] / 1000000, figures[0] % 1000000);
-    printf(" +- %" PRIu64 ".%06" PRIu64, figures[1] / 1000000, figures[1] % 1000000);
+    printf("%" PRIu64 ".%06" PRIu64 " m3/s", figures.discharge / 1000000, figures.discharge % 1000000);
+    printf(" +- %" PRIu64 ".%06" PRIu64, figures.discharge_margin / 1000000, figures.discharge_margin % 1000000);
 }
 
 static int refused(uint64_t number)
 {
     if (number) printf("step %" PRIu64 " refused %" PRIu64 "\n", river.steps, number);
-    return number != 0;
+    return number != RIVER_ACCEPTED;
 }
 
-/* The last element's line: an answer holds four numbers for each lead from 0 on, by element. */
-static void print_outlet(size_t count)
+static river_figures outlet_at(const river_plan *plan, size_t lead)
 {
-    size_t leads = count / 4 / river.elements - 1, highest = 1;
-    const uint64_t *outlet = numbers + count - 4 * (leads + 1);
-    for (size_t lead = 2; lead <= leads; lead++)
-        if (outlet[4 * lead] > outlet[4 * highest]) highest = lead;
+    return river_figures_at(numbers, plan->leads, plan->elements, lead);
+}
+
+/* The last element's line: its figures now, which are lead 0, and the highest of its leads. */
+static void print_outlet(const river_plan *plan)
+{
+    size_t highest = 1;
+    for (size_t lead = 2; lead <= plan->leads; lead++)
+        if (outlet_at(plan, lead).discharge > outlet_at(plan, highest).discharge) highest = lead;
     printf("step %" PRIu64 ": ", river.steps);
-    print_discharge(outlet);
+    print_discharge(outlet_at(plan, 0));
     printf(", highest ");
-    print_discharge(outlet + 4 * highest);
+    print_discharge(outlet_at(plan, highest));
     printf(" at lead %zu\n", highest);
 }
 
@@ -49,6 +53,10 @@ static size_t whole(const uint8_t *from, size_t left, size_t field)
 
 int main(int argc, char **argv)
 {
+    if (river_version() != RIVER_VERSION) {
+        fprintf(stderr, "outlet: the library is of version %" PRIu64 ", river.h of %d\n", river_version(), RIVER_VERSION);
+        return 1;
+    }
     FILE *file = argc == 2 ? fopen(argv[1], "rb") : NULL;
     if (!file) {
         fprintf(stderr, "usage: outlet FILE\n");
@@ -57,21 +65,18 @@ int main(int argc, char **argv)
     size_t size = fread(input, 1, sizeof input, file), table_bytes = whole(input, size, 4), bytes;
     int refusals = 0;
     fclose(file);
-    river_state_reply started = river_start(input, table_bytes, river);
-    river = started.state;
-    if (refused(started.refusal)) return 1;
-    river_plan plan = river_prepare(input, table_bytes);
+    if (refused(river_start(input, table_bytes, &river))) return 1;
+    river_plan plan = river_check(input, table_bytes);
     printf("%zu elements, %zu gauges, %zu leads, records of %zu bytes\n", plan.elements, plan.gauges, plan.leads, plan.record_bytes);
     for (size_t at = table_bytes; at < size; at += bytes) {
         bytes = whole(input + at, size - at, 2);
-        river_state_reply moved = river_step(input, table_bytes, input + at, bytes, river);
-        river = moved.state; /* a refused step leaves it as it was */
-        refusals += refused(moved.refusal);
-        if (moved.refusal && moved.refusal <= 10) return 1; /* what follows can no longer be told apart */
-        if (moved.refusal) continue;
-        river_forecast_reply ahead = river_forecast(input, table_bytes, river, numbers, RIVER_MOST_NUMBERS);
+        uint64_t number = river_step(input, table_bytes, input + at, bytes, &river); /* a refused step leaves the state as it was */
+        refusals += refused(number);
+        if (number && number <= RIVER_REFUSED_RECORD_LENGTH) return 1; /* what follows can no longer be told apart */
+        if (number) continue;
+        river_written ahead = river_forecast(input, table_bytes, &river, numbers, RIVER_MOST_NUMBERS);
         refusals += refused(ahead.refusal);
-        if (!ahead.refusal) print_outlet(ahead.count);
+        if (!ahead.refusal) print_outlet(&plan);
     }
     return refusals != 0;
 }

@@ -1,9 +1,9 @@
--- The places of an answer: four numbers each, by element and then lead.
+-- The places of the working space: four numbers each, by element and then lead.
 use Prim.Native.Nat.{ℕ, _+_, _*_, _≤_, _<_}
 use mathlib.Core.List.{List}
 use mathlib.Core.Logic.{_≢_, ⊎-elim}
 use mathlib.Core.Path.{_≡_, refl, ap, _∙_}
-use native.Mathlib.Nat.{mul-le-mul-left, mul-le-mul-right, suc-mul, eq-or-lt-of-le}
+use native.Mathlib.Nat.{mul-le-mul-right, suc-mul, eq-or-lt-of-le}
 use native.Mathlib.Decide.{decLe}
 use native.Mathlib.Omega.{arith}
 use lib.ListN.{length, getD, set, length-set}
@@ -96,7 +96,3 @@ same-element w i k a b la lb e = go (decLe i k)
 
 pub same-lead : (w i k a b : ℕ) → a < w → b < w → i * w + a ≡ k * w + b → a ≡ b
 same-lead w i k a b la lb e = omega (arith, ap (λ (j : ℕ). j * w) (same-element w i k a b la lb e))
-
--- the place of one of n elements, at no more than thirteen leads
-pub place-fits : (n w i lead : ℕ) → i < n → lead < w → w ≤ 13 → i * w + lead < n * 13
-place-fits n w i lead l m short = omega (arith, earlier w i n l, mul-le-mul-left n short)

@@ -1,9 +1,10 @@
--- The places of an answer in the code: four numbers each, by element and then lead.
+-- Serves the code: the places of its working space, four numbers each.
 use Prim.Native.Nat.{ℕ, _+_, _*_, _≤_, _<_}
 use mathlib.Core.List.{List}
 use mathlib.Core.Path.{_≡_}
 use lib.ListN.{getD, set}
-use Rattle.units.specs.Units.{grains, thousandths}
+use Rattle.sizes.specs.Sizes.{mostElements}
+use Rattle.units.specs.Units.{C, grains, thousandths}
 use Rattle.method.specs.declared.Figures.{Figures}
 
 -- four numbers at place p of an answer, and those of an element put there
@@ -21,13 +22,13 @@ put answer p f =
     set (set (set (set answer (4 * p) (f .discharge .0)) (4 * p + 1) (f .«discharge_margin» .0)) (4 * p + 2) (f .variance .0))
     (4 * p + 3) (f .«variance_margin» .0)
 
--- the numbers of sums are at most b
+-- what all elements together can let out
+abbrev pub mostSum : ℕ
+mostSum = mostElements * C
+
+-- the numbers of a sum are at most b
 pub record FiguresBelow (f : Figures) (b : ℕ) : Type 0 where
   pub discharge : f .discharge .0 ≤ b
   pub dischargeMargin : f .«discharge_margin» .0 ≤ b
   pub variance : f .variance .0 ≤ b
   pub varianceMargin : f .«variance_margin» .0 ≤ b
-
--- all leads below m are at their places
-pub record LeadsHeld (answer : List ℕ) (figures : ℕ → ℕ → Figures) (n w m : ℕ) : Type 0 where
-  pub at : (i lead : ℕ) → i < n → lead < m → figuresAt answer (i * w + lead) ≡ figures lead i

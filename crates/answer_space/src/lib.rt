@@ -1,11 +1,11 @@
-// Four numbers at each place of an answer or of sums, and an answer's numbers copied.
+// The working space of a step or a forecast: the figures of one element, four numbers at each place; an answer's numbers copied.
 ghost use mathlib.Core.Path.{_≡_};
 ghost use Prim.Native.Nat.{_+_, _*_, _≤_, _<_};
 ghost use lib.ListN.{length};
 ghost use lib.Seq.{paste};
 ghost use Rattle.method.specs.Figures.{FiguresFit};
 ghost use Rattle.method.specs.Inflow.{joinedInflow};
-ghost use Rattle.answer_space.specs.Places.{figuresAt, put, FiguresBelow};
+ghost use Rattle.answer_space.specs.Places.{figuresAt, put, mostSum, FiguresBelow};
 use method::Figures;
 use units::Discharge;
 use units::Variance;
@@ -38,9 +38,9 @@ pub fn put_figures(numbers: &mut [u64], place: usize, f: Figures)
     numbers[4 * place + 3] = d.0;
 }
 
-// Sums with one element's figures more.
+// A sum with one element's figures more.
 fn joined(x: Figures, y: Figures) -> Figures
-    requires { ⌜ FiguresBelow x 256000000000 × FiguresFit y ⌝ }
+    requires { ⌜ FiguresBelow x mostSum × FiguresFit y ⌝ }
     ensures { λ r. ⌜ r ≡ joinedInflow x y ⌝ }
 {
     let xq = x.discharge;
@@ -61,7 +61,7 @@ fn joined(x: Figures, y: Figures) -> Figures
 
 // The figures of one element added to the sums at a place.
 pub fn add_figures(numbers: &mut [u64], place: usize, f: Figures)
-    requires { ⌜ (4 * place + 3 < length (now numbers)) × (FiguresBelow (figuresAt (now numbers) place) 256000000000 × FiguresFit f) ⌝ }
+    requires { ⌜ (4 * place + 3 < length (now numbers)) × (FiguresBelow (figuresAt (now numbers) place) mostSum × FiguresFit f) ⌝ }
     ensures { λ _. ⌜ now (numbers .exit) ≡ put (now (numbers .entry)) place (joinedInflow (figuresAt (now (numbers .entry)) place) f) ⌝ }
 {
     let sums = figures_at(&*numbers, place);

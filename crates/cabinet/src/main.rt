@@ -1,32 +1,35 @@
 // Document 01, the program: a table and then records on standard input, the figures of each accepted step on standard output.
 ghost use mathlib.Core.Path.{_≡_};
-ghost use mathlib.Core.Bool.{true};
 ghost use Prim.Native.Nat.{_≤_};
 ghost use lib.ListN.{length};
-ghost use Rattle.table.specs.InUse.{tableIn};
-ghost use Rattle.plan.specs.Plans.{PlanFits};
-ghost use Rattle.state.specs.Rules.{stateFits};
-ghost use Rattle.session.specs.Windows.{SessionFits};
+ghost use Rattle.sizes.specs.Sizes.{tableBytes, forecastSpace};
+ghost use Rattle.buffers.specs.Held.{inputBuffer, textBuffer, BuffersFit};
+ghost use Rattle.report.specs.Answers.{RecordReady};
+use buffers::Buffers;
+use buffers::INPUT_BUFFER;
+use buffers::TEXT_BUFFER;
+use buffers::Window;
+use buffers::after_record;
+use buffers::ready;
+use buffers::write_out;
 use fields::bytes::read32;
 use lines::put_refusal;
-use opening::open;
 use plan::Plan;
 use refusal::Refusal;
+use refusal::Verdict;
 use report::answer_next;
 use report::record_length;
-use session::Session;
-use session::Window;
-use session::after_record;
-use session::ready;
-use session::write_out;
-use state::State;
-use table::Verdict;
+use sizes::FORECAST_SPACE;
+use sizes::MOST_ELEMENTS;
+use sizes::STATE_NUMBERS;
+use sizes::TABLE_BYTES;
+use table_input::started_on_input;
 
 // What the program holds before the first record.
-fn first_session() -> Session
-    ensures { λ r. ⌜ SessionFits r 0 ⌝ }
+fn first_buffers() -> Buffers
+    ensures { λ r. ⌜ BuffersFit r 0 ⌝ }
 {
-    Session {
+    Buffers {
         window: Window {
             from: 0,
             have: 0,
@@ -41,59 +44,59 @@ fn first_session() -> Session
 fn serve(
     table: &[u8],
     plan: Plan,
-    state: State,
+    weights: &[u64],
+    state: &mut [u64; STATE_NUMBERS],
     input: &mut [u8],
-    numbers: &mut [u64],
+    space: &mut [u64],
     out: &mut [u8],
 )
-    requires { ⌜ PlanFits (now table) plan × ((length (now numbers) ≡ 3328) × ((length (now out) ≡ 262144) × (stateFits (tableIn (now table)) state ≡ true))) ⌝ }
+    requires { ⌜ RecordReady (now table) plan (now weights) (now state) (now space) (now out) 0 × (length (now out) ≡ textBuffer) ⌝ }
 {
-    let mut state = state;
-    let mut session = first_session();
+    let mut held = first_buffers();
     let mut count: u64 = 0;
     while count < 100_000 {
-        session = ready(session, &mut *input, &*out);
-        if session.ended {
+        held = ready(held, &mut *input, &*out);
+        if held.ended {
             break;
         }
-        let window = session.window;
+        let window = held.window;
         let from = window.from;
         let have = window.have;
         let length = record_length(&input[from..have]);
         let answer = answer_next(
             table,
             plan,
+            weights,
             &input[from..have],
-            state,
-            &mut *numbers,
+            &mut *state,
+            &mut *space,
             &mut *out,
-            session.at,
+            held.at,
         );
-        state = answer.state;
-        session = after_record(window, length, answer.end, answer.ended);
+        held = after_record(window, length, answer.end, answer.ended);
         count += 1;
     }
-    write_out(&*out, session.at);
+    write_out(&*out, held.at);
 }
 
 // The table is refused, and nothing else is read.
 fn refuse(refusal: Refusal) {
-    let mut out = [0u8; 64];
+    let mut out = [0u8; 50];
     let end = put_refusal(&mut out, 0, 0, refusal.code());
     write_out(&out, end);
 }
 
 // Reads the table by its length field, or its four bytes alone where the table is too long; how many bytes there are.
 fn read_table(table: &mut [u8]) -> usize
-    requires { ⌜ length (now table) ≡ 2410 ⌝ }
-    ensures { λ r. ⌜ r ≤ 2410 ⌝ }
+    requires { ⌜ length (now table) ≡ tableBytes ⌝ }
+    ensures { λ r. ⌜ r ≤ tableBytes ⌝ }
 {
     let first = io::read_full(0, &mut table[0..4]);
     let counted = read32(&*table, 0);
     if first < 4 {
         return first;
     }
-    if counted > 2_406 {
+    if counted > TABLE_BYTES as u64 - 4 {
         return 4;
     }
     let size = counted as usize + 4;
@@ -101,52 +104,53 @@ fn read_table(table: &mut [u8]) -> usize
 }
 
 // The longest table.
-fn table_buffer() -> [u8; 2410]
-    ensures { λ r. ⌜ 2410 ≡ length r ⌝ }
+fn table_buffer() -> [u8; TABLE_BYTES]
+    ensures { λ r. ⌜ tableBytes ≡ length r ⌝ }
 {
-    [0; 2410]
+    [0; TABLE_BYTES]
 }
 
 // Room for two of the longest records.
-fn input_buffer() -> [u8; 131072]
-    ensures { λ r. ⌜ 131072 ≡ length r ⌝ }
+fn input_buffer() -> [u8; INPUT_BUFFER]
+    ensures { λ r. ⌜ inputBuffer ≡ length r ⌝ }
 {
-    [0; 131072]
+    [0; INPUT_BUFFER]
 }
 
-// Room for the largest forecast.
-fn number_buffer() -> [u64; 3328]
-    ensures { λ r. ⌜ 3328 ≡ length r ⌝ }
+// Working space for the largest forecast.
+fn forecast_space() -> [u64; FORECAST_SPACE]
+    ensures { λ r. ⌜ forecastSpace ≡ length r ⌝ }
 {
-    [0; 3328]
+    [0; FORECAST_SPACE]
 }
 
 // Room for the longest text of two records.
-fn text_buffer() -> [u8; 262144]
-    ensures { λ r. ⌜ 262144 ≡ length r ⌝ }
+fn text_buffer() -> [u8; TEXT_BUFFER]
+    ensures { λ r. ⌜ textBuffer ≡ length r ⌝ }
 {
-    [0; 262144]
+    [0; TEXT_BUFFER]
 }
 
-// The run after the table's bytes are read.
-fn run(table: &[u8], input: &mut [u8], numbers: &mut [u64], out: &mut [u8])
-    requires { ⌜ (length (now numbers) ≡ 3328) × (length (now out) ≡ 262144) ⌝ }
+// The run after the table's bytes are read: the state and the weights are held here, and lent.
+fn run(table: &[u8], input: &mut [u8], space: &mut [u64], out: &mut [u8])
+    requires { ⌜ (length (now space) ≡ forecastSpace) × (length (now out) ≡ textBuffer) ⌝ }
 {
-    let opening = open(table);
-    let verdict = opening.verdict;
+    let mut weights = [0u64; MOST_ELEMENTS];
+    let mut state = [0u64; STATE_NUMBERS];
+    let started = started_on_input(table, &mut weights, &mut state);
+    let verdict = started.verdict;
+    let plan = started.plan;
+    let length = started.length;
     match verdict {
-        Verdict::Accepted => {
-            let plan = opening.plan;
-            let length = opening.length;
-            serve(
-                &table[..length],
-                plan,
-                opening.state,
-                &mut *input,
-                &mut *numbers,
-                &mut *out,
-            );
-        }
+        Verdict::Accepted => serve(
+            &table[..length],
+            plan,
+            &weights,
+            &mut state,
+            &mut *input,
+            &mut *space,
+            &mut *out,
+        ),
         Verdict::Refused(refusal) => refuse(refusal),
     }
 }
@@ -154,8 +158,8 @@ fn run(table: &[u8], input: &mut [u8], numbers: &mut [u64], out: &mut [u8])
 fn main() {
     let mut table = table_buffer();
     let mut input = input_buffer();
-    let mut numbers = number_buffer();
+    let mut space = forecast_space();
     let mut out = text_buffer();
     let have = read_table(&mut table);
-    run(&table[..have], &mut input, &mut numbers, &mut out);
+    run(&table[..have], &mut input, &mut space, &mut out);
 }

@@ -10,11 +10,12 @@ use Rattle.exact.specs.Margins.{Follows}
 use Rattle.table.specs.Tables.{TableValues}
 use Rattle.table.specs.Bounds.{TableBounds}
 use Rattle.record.specs.declared.Observation.the-variants.{Nothing}
-use Rattle.state.specs.declared.State.{State}
-use Rattle.network.specs.Step.{figuresIn, noObservation}
+use Rattle.state.specs.States.{State, stepsOf, figuresOf}
+use Rattle.state.proofs.BoundsLaws.{state-bounds}
+use Rattle.network.specs.Step.{noObservation}
 use Rattle.network.specs.Forecast.{forecastOwn, leadFigures}
-use Rattle.leads.specs.Answer.{forecastFigures}
-use Rattle.network.proofs.StateFitsLaws.{steps-most}
+use Rattle.network.specs.Answer.{forecastFigures}
+use Rattle.network.proofs.NumbersLaws.{lead-part}
 use Rattle.exact_run.specs.ExactForecast.{ExactState, exactLeadFigures}
 use Rattle.exact_run.proofs.ForecastNear.{leads-near}
 use Rattle.exact_run.proofs.LimitLaws.{limit-step}
@@ -23,8 +24,7 @@ use Rattle.claim.specs.CabinetRun.{stateHanded}
 use Rattle.claim.specs.FractionRun.{exactStateHanded, exactForecastHanded}
 use Rattle.claim.specs.Claim.{Pairwise, All, WithinMargins, UnderLimit}
 use Rattle.claim.proofs.ListLaws.{near-listed, near-by-lead, every-listed, every-by-lead}
-use Rattle.leads.proofs.LeadsLaws.{lead-part}
-use Rattle.engine.proofs.ForecastLaws.{Forecasting, lead-fits}
+use Rattle.entries.proofs.ForecastLaws.{Forecasting, lead-fits}
 use Rattle.claim.proofs.CeilingLaws.{inflow-under}
 use Rattle.claim.proofs.TogetherLaws.{Limited, Together}
 
@@ -41,18 +41,18 @@ within-margins i lead e h =
       variance = h .variance .within;
     }
 
-module _ (t : TableValues) (s : State) (x : ExactState) (heard : ℕ → Bool) (both : Together t s x heard) where
+module _ (t : TableValues) (s : State) (x : ExactState) (hasReading : ℕ → Bool) (both : Together t s x hasReading) where
   -- the state itself, after a start or a step
   pub state-near : Pairwise WithinMargins (stateHanded t s) (exactStateHanded t x)
   unfolding stateHanded exactStateHanded statePlaces
   state-near =
-      near-listed WithinMargins _ (figuresIn s) _ (x .figures) (t .elements)
+      near-listed WithinMargins _ (figuresOf s) _ (x .figures) (t .elements)
       (λ i l. within-margins (i + 1) 0 (both .agrees .steps) (both .agrees .figures i l))
 
-  pub state-limit : All (UnderLimit t heard) (stateHanded t s)
+  pub state-limit : All (UnderLimit t hasReading) (stateHanded t s)
   unfolding stateHanded statePlaces UnderLimit
   state-limit =
-      every-listed (UnderLimit t heard) _ (figuresIn s) (t .elements) (λ i l q. omega (arith, both .limit i l q))
+      every-listed (UnderLimit t hasReading) _ (figuresOf s) (t .elements) (λ i l q. omega (arith, both .limit i l q))
 
   -- the leads of an accepted forecast
   module _ (b : TableBounds t) (call : Forecasting t s) where
@@ -62,24 +62,24 @@ module _ (t : TableValues) (s : State) (x : ExactState) (heard : ℕ → Bool) (
     own-margin lead i = omega arith
 
     -- "leads 1 to L are steps without readings"
-    silent : (i : ℕ) → noObservation i ≡ Nothing
+    none : (i : ℕ) → noObservation i ≡ Nothing
     unfolding noObservation
-    silent i = refl
+    none i = refl
 
     -- each lead is under the limit
-    lead-low : (lead : ℕ) → lead ≤ t .leads → (i : ℕ) → i < t .elements → Limited t heard (s .steps + lead) i (leadFigures t s lead i)
+    lead-low : (lead : ℕ) → lead ≤ t .leads → (i : ℕ) → i < t .elements → Limited t hasReading (stepsOf s + lead) i (leadFigures t s lead i)
     unfolding leadFigures
     lead-low zero m i l q = omega (arith, both .limit i l q)
     lead-low (suc lead) m i l q =
         omega (
           arith,
-          limit-step t (forecastOwn t s (suc lead)) noObservation (leadFigures t s lead) heard heard (s .steps + lead) b
-              (omega (arith, steps-most t s (call .fits), b .leadsMost))
+          limit-step t (forecastOwn t s (suc lead)) noObservation (leadFigures t s lead) hasReading hasReading (stepsOf s + lead) b
+              (omega (arith, state-bounds t s (call .fits) .steps, b .leadsMost))
               (λ k n. lead-fits t s call lead (omega arith) k n .discharge)
               (inflow-under t (forecastOwn t s (suc lead)) noObservation (leadFigures t s lead) (lead-part t s lead (t .leads) m (call .under)))
               (λ k n. own-margin (suc lead) k)
               (λ k h. h)
-              (λ k n h. silent k)
+              (λ k n h. none k)
               (lead-low lead (omega arith))
               i
               l
@@ -87,15 +87,15 @@ module _ (t : TableValues) (s : State) (x : ExactState) (heard : ℕ → Bool) (
         )
 
     -- all that the forecast answers
-    pub forecast-near : Pairwise WithinMargins (paired (forecastPlaces t (s .steps)) (forecastFigures t s)) (exactForecastHanded t x)
+    pub forecast-near : Pairwise WithinMargins (paired (forecastPlaces t (stepsOf s)) (forecastFigures t s)) (exactForecastHanded t x)
     unfolding forecastFigures exactForecastHanded forecastPlaces
     forecast-near =
         near-by-lead WithinMargins _ (λ i lead. leadFigures t s lead i) _ (λ i lead. exactLeadFigures t x lead i) (t .elements)
         (t .leads + 1)
         (λ i lead l m. within-margins (i + 1) lead (both .agrees .steps) (leads-near t s x b (both .agrees) lead i l))
 
-    pub forecast-limit : All (UnderLimit t heard) (paired (forecastPlaces t (s .steps)) (forecastFigures t s))
+    pub forecast-limit : All (UnderLimit t hasReading) (paired (forecastPlaces t (stepsOf s)) (forecastFigures t s))
     unfolding forecastFigures forecastPlaces UnderLimit
     forecast-limit =
-        every-by-lead (UnderLimit t heard) _ (λ i lead. leadFigures t s lead i) (t .elements) (t .leads + 1)
+        every-by-lead (UnderLimit t hasReading) _ (λ i lead. leadFigures t s lead i) (t .elements) (t .leads + 1)
         (λ i lead l m q. lead-low lead (omega arith) i l q)

@@ -1,6 +1,6 @@
 pub mod ListLaws
 pub mod CeilingLaws
-pub mod HeardLaws
+pub mod ReadingLaws
 pub mod AcceptedLaws
 pub mod TogetherLaws
 pub mod HandedLaws

@@ -1,10 +1,11 @@
 -- Laws of lists side by side, and of lists by element and lead: what holds at each place holds of the lists.
-use Prim.Native.Nat.{ℕ, zero, suc, _*_, _<_}
+use Prim.Native.Nat.{ℕ, zero, suc, _<_}
 use mathlib.Core.List.{List, [], _∷_, _++_}
 use mathlib.Core.Path.{_≡_, refl, sym, ap, _∙_}
 use native.Mathlib.Omega.{arith}
-use lib.ListN.{length, length-append}
-use Rattle.leads.specs.Answer.{listed, byElementAndLead}
+use lib.ListN.{length}
+use Rattle.network.specs.Answer.{listed, byElementAndLead}
+use Rattle.network.proofs.LayoutLaws.{listed-length, by-lead-length}
 use Rattle.claim.specs.Calls.{paired}
 use Rattle.claim.specs.Claim.{Pairwise, All, none, more}
 
@@ -52,24 +53,6 @@ module _ {A : Type 0} (P : A → Type 0) where
   all-by-lead f (suc n) w h =
       all-append (all-by-lead f n w (λ i lead l m. h i lead (omega arith) m))
       (all-listed (f n) w (λ lead m. h n lead (omega arith) m))
-
--- how many places the lists have
-module _ {A : Type 0} where
-  listed-length : (f : ℕ → A) (n : ℕ) → length (listed f n) ≡ n
-  unfolding listed
-  listed-length f zero = refl
-  listed-length f (suc n) = omega (arith, length-append (listed f n) (f n ∷ []), listed-length f n)
-
-  by-lead-length : (f : ℕ → ℕ → A) (n w : ℕ) → length (byElementAndLead f n w) ≡ n * w
-  unfolding byElementAndLead
-  by-lead-length f zero w = omega arith
-  by-lead-length f (suc n) w =
-      omega (
-        arith,
-        length-append (byElementAndLead f n w) (listed (f n) w),
-        by-lead-length f n w,
-        listed-length (f n) w,
-      )
 
 -- lists made place by place, side by side
 module _ {A B : Type 0} where

@@ -9,11 +9,10 @@ use Rattle.table.specs.InUse.{tableIn}
 use Rattle.record.specs.declared.Reading.{Reading}
 use Rattle.record.specs.declared.Reading.the-variants.{At, Gap}
 use Rattle.record.specs.Records.{readingAt, atElement}
-use Rattle.state.specs.declared.State.{State}
+use Rattle.state.specs.States.{State, stepsOf, figuresOf}
 use Rattle.state.specs.Answers.{stateAfter}
-use Rattle.network.specs.Step.{figuresIn}
-use Rattle.leads.specs.Answer.{listed}
-use Rattle.engine.specs.Entries.{stepAnswer, forecastAnswer}
+use Rattle.network.specs.Answer.{listed}
+use Rattle.entries.specs.Entries.{stepAnswer, forecastAnswer}
 use Rattle.claim.specs.Calls.{Call, step, forecast, Place, statePlaces, forecastPlaces, paired}
 
 -- "anything but a gap"
@@ -23,9 +22,9 @@ isReading (At h) = true
 
 -- "A reading has come in at an element where an accepted step since the start gave its gauge anything but a gap.": of each
 -- element number, before a step and after it
-unfoldable pub heardAfter : TableValues → List ℕ → (ℕ → Bool) → ℕ → Bool
-heardAfter t bytes heard zero = false
-heardAfter t bytes heard (suc i) = heard (suc i) || isReading (atElement t Gap (readingAt t bytes) i (t .gauges))
+unfoldable pub hasReadingAfter : TableValues → List ℕ → (ℕ → Bool) → ℕ → Bool
+hasReadingAfter t bytes hasReading zero = false
+hasReadingAfter t bytes hasReading (suc i) = hasReading (suc i) || isReading (atElement t Gap (readingAt t bytes) i (t .gauges))
 
 unfoldable pub isRefused : {A : Type 0} → Answer A → Bool
 isRefused (accepted a) = false
@@ -33,7 +32,7 @@ isRefused (refused n) = true
 
 -- what a call hands out: the figures of the state that a step leaves, or those that a forecast answers
 unfoldable pub stateHanded : TableValues → State → List (Place × Figures)
-stateHanded t s = paired (statePlaces t (s .steps)) (listed (figuresIn s) (t .elements))
+stateHanded t s = paired (statePlaces t (stepsOf s)) (listed (figuresOf s) (t .elements))
 
 unfoldable pub stepHanded : TableValues → Answer State → List (Place × Figures)
 stepHanded t (accepted next) = stateHanded t next
@@ -47,12 +46,12 @@ forecastHanded t steps (refused n) = []
 pub record Outcome : Type 0 where
   pub wasRefused : Bool
   pub handed : List (Place × Figures)
-  pub heard : ℕ → Bool
+  pub hasReading : ℕ → Bool
 
 -- where readings have come in after a step; "refused calls it skips"
-unfoldable pub heardBy : TableValues → List ℕ → Answer State → (ℕ → Bool) → ℕ → Bool
-heardBy t bytes (accepted next) heard = heardAfter t bytes heard
-heardBy t bytes (refused n) heard = heard
+unfoldable pub hasReadingBy : TableValues → List ℕ → Answer State → (ℕ → Bool) → ℕ → Bool
+hasReadingBy t bytes (accepted next) hasReading = hasReadingAfter t bytes hasReading
+hasReadingBy t bytes (refused n) hasReading = hasReading
 
 module _ (table : List ℕ) where
   unfoldable pub nextState : Call → State → State
@@ -60,25 +59,25 @@ module _ (table : List ℕ) where
   nextState (forecast room) s = s
 
   unfoldable pub outcome : Call → State → (ℕ → Bool) → Outcome
-  outcome (step bytes) s heard =
+  outcome (step bytes) s hasReading =
       record {
         wasRefused = isRefused (stepAnswer table bytes s);
         handed = stepHanded (tableIn table) (stepAnswer table bytes s);
-        heard = heardBy (tableIn table) bytes (stepAnswer table bytes s) heard;
+        hasReading = hasReadingBy (tableIn table) bytes (stepAnswer table bytes s) hasReading;
       }
-  outcome (forecast room) s heard =
+  outcome (forecast room) s hasReading =
       record {
         wasRefused = isRefused (forecastAnswer table s room);
-        handed = forecastHanded (tableIn table) (s .steps) (forecastAnswer table s room);
-        heard = heard;
+        handed = forecastHanded (tableIn table) (stepsOf s) (forecastAnswer table s room);
+        hasReading = hasReading;
       }
 
   -- the calls one after the other, each on the state that the one before left
   unfoldable pub cabinetRun : State → (ℕ → Bool) → List Call → List Outcome
-  cabinetRun s heard [] = []
-  cabinetRun s heard (call ∷ calls) =
-      outcome call s heard ∷ cabinetRun (nextState call s) (outcome call s heard .heard) calls
+  cabinetRun s hasReading [] = []
+  cabinetRun s hasReading (call ∷ calls) =
+      outcome call s hasReading ∷ cabinetRun (nextState call s) (outcome call s hasReading .hasReading) calls
 
   -- "the state after that start"
   unfoldable pub startOutcome : State → Outcome
-  startOutcome s = record { wasRefused = false; handed = stateHanded (tableIn table) s; heard = λ k. false }
+  startOutcome s = record { wasRefused = false; handed = stateHanded (tableIn table) s; hasReading = λ k. false }

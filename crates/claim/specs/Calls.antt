@@ -2,7 +2,7 @@
 use Prim.Native.Nat.{ℕ, _+_}
 use mathlib.Core.List.{List, [], _∷_}
 use Rattle.table.specs.Tables.{TableValues}
-use Rattle.leads.specs.Answer.{listed, byElementAndLead}
+use Rattle.network.specs.Answer.{listed, byElementAndLead}
 
 -- a call after the start: the bytes of a step's record, or how many numbers a forecast's lent space holds;
 -- "all calls of the list take [the table] unchanged"

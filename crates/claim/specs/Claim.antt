@@ -9,10 +9,10 @@ use Rattle.exact.specs.Fraction.{Within}
 use Rattle.exact.specs.Exact.{ExactFigures}
 use Rattle.table.specs.Tables.{TableValues}
 use Rattle.table.specs.InUse.{tableIn}
-use Rattle.state.specs.declared.State.{State}
+use Rattle.state.specs.States.{State}
 use Rattle.network.specs.Step.{networkDown}
 use Rattle.exact_run.specs.ExactRun.{exactStarted}
-use Rattle.exact_run.specs.Limit.{atOrAbove, Quiet}
+use Rattle.exact_run.specs.Limit.{atOrAbove, NoReading}
 use Rattle.claim.specs.Calls.{Call, Place, paired}
 use Rattle.claim.specs.CabinetRun.{Outcome, cabinetRun, startOutcome}
 use Rattle.claim.specs.FractionRun.{exactStateHanded, fractionRun}
@@ -37,8 +37,8 @@ pub record WithinMargins (cabinet : Place × Figures) (fractions : Place × Exac
 -- the mission: "where no reading has come in at or above an element, its discharge margin after n steps and leads is at most
 -- 16 × n × c, c being the elements at or above it"; "The mission's n is the step count plus the lead."
 unfoldable pub UnderLimit : TableValues → (ℕ → Bool) → Place × Figures → Type 0
-UnderLimit t heard (place, figures) =
-    Quiet (t .elements) (networkDown t) heard (place .element)
+UnderLimit t hasReading (place, figures) =
+    NoReading (t .elements) (networkDown t) hasReading (place .element)
     → figures .«discharge_margin» .0
     ≤ 16 * (place .steps + place .lead) * atOrAbove (t .elements) (networkDown t) (place .element)
 
@@ -58,4 +58,4 @@ pub record Claim (table : List ℕ) (s : State) (calls : List Call) : Type 0 whe
   pub near :
       Pairwise (λ (o : Outcome) (x : List (Place × ExactFigures)). Pairwise WithinMargins (o .handed) x)
       (outcomes table s calls) (fractions table s calls)
-  pub limit : All (λ (o : Outcome). All (UnderLimit (tableIn table) (o .heard)) (o .handed)) (outcomes table s calls)
+  pub limit : All (λ (o : Outcome). All (UnderLimit (tableIn table) (o .hasReading)) (o .handed)) (outcomes table s calls)

@@ -5,7 +5,7 @@ use mathlib.Core.Bool.{Bool, true, false}
 use mathlib.Core.List.{List, [], _∷_}
 use Rattle.exact.specs.Exact.{ExactFigures}
 use Rattle.table.specs.Tables.{TableValues}
-use Rattle.leads.specs.Answer.{listed, byElementAndLead}
+use Rattle.network.specs.Answer.{listed, byElementAndLead}
 use Rattle.exact_run.specs.ExactForecast.{ExactState, exactLeadFigures}
 use Rattle.exact_run.specs.ExactRun.{exactStepped}
 use Rattle.claim.specs.Calls.{Call, step, forecast, Place, statePlaces, forecastPlaces, paired}

@@ -1,1 +1,1 @@
-// Definitions and theorems only: the mission's third property, about every list of steps and forecasts.
+// The mission's third property, about every list of steps and forecasts: definitions and the theorem.

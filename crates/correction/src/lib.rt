@@ -9,19 +9,16 @@ use gain::gain_margin_of;
 use gain::gain_of;
 use method::Figures;
 use method::FiguresAnswer;
-use refusal::Refusal;
 use units::Discharge;
 use units::Variance;
-use units::VarianceAnswer;
 use weighting::Estimate;
-use weighting::EstimateAnswer;
 use weighting::SCALE;
 use weighting::blend::blend;
 
 // The variance that is left once a reading has come in, with its margin.
 fn variance_left(noise: u64, variance: Estimate) -> Estimate
     requires { ⌜ (1 ≤ noise) × ((noise ≤ C) × EstimateFits variance) ⌝ }
-    ensures { λ r. ⌜ (r ≡ correctedVariance noise variance) × ((r .value ≤ C) × (r .margin ≤ 4000000002)) ⌝ }
+    ensures { λ r. ⌜ r ≡ correctedVariance noise variance ⌝ }
 {
     let total = variance.value + noise;
     Estimate {
@@ -42,22 +39,7 @@ pub fn correct(noise: Variance, z: Discharge, x: Figures) -> FiguresAnswer
     };
     let gain = gain_of(noise.0, old.value);
     let gain_margin = gain_margin_of(noise.0, old);
-    let EstimateAnswer::Accepted(q) = blend(
-        SCALE - gain,
-        gain_margin,
-        x.discharge_estimate(),
-        reading,
-    ) else {
-        return FiguresAnswer::Refused(Refusal::AboveCeiling);
-    };
+    let q = blend(SCALE - gain, gain_margin, x.discharge_estimate(), reading);
     let left = variance_left(noise.0, old);
-    let VarianceAnswer::Accepted(variance_margin) = Variance::new(left.margin) else {
-        return FiguresAnswer::Refused(Refusal::AboveCeiling);
-    };
-    FiguresAnswer::Accepted(Figures {
-        discharge: Discharge(q.value),
-        discharge_margin: Discharge(q.margin),
-        variance: Variance(left.value),
-        variance_margin,
-    })
+    Figures::new(q, left)
 }

@@ -1,10 +1,11 @@
-// Rule 7 on a gauge's curve.
+// Rule 7 on a gauge's curve, read where it stands in the table.
 ghost use mathlib.Core.Path.{_≡_};
-ghost use Prim.Native.Nat.{_≤_, _<_};
-ghost use Rattle.fields.specs.Ranges.{allBelow};
-ghost use Rattle.gauges.specs.Rules.{offsetFits, offsetZero, pieceOf, topBefore, pieceInUseFits, pieceUnused, pieceFits, curveFits};
+ghost use Rattle.gauges.specs.Places.{curveAt, GaugeThere};
+ghost use Rattle.gauges.specs.Rules.{offsetFits, offsetZero, pieceInUseFits, pieceUnused, curveFits};
+ghost use Rattle.curve_rules.specs.Judged.{Counted, InUseKept, InUseJudged};
+use fields::bytes::wide;
 use fields::range::in_range;
-use rating::Curve;
+use gauges::piece_at;
 use rating::Offset;
 use rating::Piece;
 
@@ -26,25 +27,18 @@ fn offset_zero(offset: Offset) -> bool
     }
 }
 
-// The top of the piece before piece j; 0 before the first.
-fn top_before(curve: Curve, j: usize) -> u64
-    requires { ⌜ j ≤ 5 ⌝ }
-    ensures { λ r. ⌜ r ≡ topBefore curve j ⌝ }
-{
-    if j == 0 {
-        return 0;
-    }
-    let piece = curve.pieces[j - 1];
-    let top = piece.top;
-    top.0
-}
-
 fn piece_in_use_fits(below: u64, piece: Piece) -> bool
     ensures { λ r. ⌜ r ≡ pieceInUseFits below piece ⌝ }
 {
     let top = piece.top;
     let offset = piece.offset;
-    (below < top.0) & in_range(piece.factor, 1, 1_000_000) & offset_fits(offset)
+    if top.0 <= below {
+        return false;
+    }
+    if !in_range(piece.factor, 1, 1_000_000) {
+        return false;
+    }
+    offset_fits(offset)
 }
 
 fn piece_unused(piece: Piece) -> bool
@@ -55,38 +49,50 @@ fn piece_unused(piece: Piece) -> bool
     (top.0 == 0) & (piece.factor == 0) & offset_zero(offset)
 }
 
-// Piece j of a curve: in its ranges where it is in use, else all zero.
-fn piece_fits(curve: Curve, j: usize) -> bool
-    requires { ⌜ j < 5 ⌝ }
-    ensures { λ r. ⌜ r ≡ pieceFits curve j ⌝ }
+// Whether the pieces in use of the gauge at a place keep rule 7, the last of their tops with them.
+fn pieces_in_use_fit(table: &[u8], at: usize, count: usize) -> bool
+    requires { ⌜ Counted (now table) at count ⌝ }
+    ensures { λ r. ⌜ InUseJudged (curveAt (now (table .entry)) at) r ⌝ }
 {
-    let piece = curve.pieces[j];
-    if j < curve.count {
-        piece_in_use_fits(top_before(curve, j), piece)
-    } else {
-        piece_unused(piece)
+    let mut below: u64 = 0;
+    for j in 0..count {
+        let piece = piece_at(table, at + 6 + 8 * j);
+        if !piece_in_use_fits(below, piece) {
+            return false;
+        }
+        let top = piece.top;
+        below = top.0;
     }
+    below == 30_001
 }
 
-fn pieces_fit(curve: Curve) -> bool
-    ensures { λ r. ⌜ r ≡ allBelow (pieceFits curve) 5 ⌝ }
+// Where they do, rule 7 asks that the pieces after them are all zero.
+fn pieces_unused(table: &[u8], at: usize, count: usize) -> bool
+    requires { ⌜ Counted (now table) at count × InUseKept (curveAt (now table) at) ⌝ }
+    ensures { λ r. ⌜ r ≡ curveFits (curveAt (now (table .entry)) at) ⌝ }
 {
-    let mut fit = true;
-    for j in 0..5 {
-        fit = fit & piece_fits(curve, j);
+    for j in count..5 {
+        if !piece_unused(piece_at(table, at + 6 + 8 * j)) {
+            return false;
+        }
     }
-    fit
+    true
 }
 
-pub fn curve_fits(curve: Curve) -> bool
-    ensures { λ r. ⌜ r ≡ curveFits curve ⌝ }
+// Rule 7 on the curve of the gauge whose bytes start at a place.
+pub fn curve_fits(table: &[u8], at: usize) -> bool
+    requires { ⌜ GaugeThere (now table) at ⌝ }
+    ensures { λ r. ⌜ r ≡ curveFits (curveAt (now (table .entry)) at) ⌝ }
 {
-    let count = curve.count;
+    let count = wide(table[at + 1]) as usize;
     if count < 1 {
         return false;
     }
     if 5 < count {
         return false;
     }
-    pieces_fit(curve) & (top_before(curve, count) == 30_001)
+    if !pieces_in_use_fit(table, at, count) {
+        return false;
+    }
+    pieces_unused(table, at, count)
 }

@@ -1,9 +1,23 @@
--- What the functions of one element may rely on.
-use Prim.Native.Nat.{_≤_}
-use Rattle.units.specs.Units.{C}
+-- Serves the code: what the functions of one element may rely on.
+use Prim.Native.Nat.{ℕ, _≤_}
+use Rattle.units.specs.Units.{C, S}
+use Rattle.method.specs.declared.Figures.{Figures}
+use Rattle.method.specs.Figures.{FiguresFit}
 use Rattle.elements.specs.declared.Element.{Element}
+use Rattle.elements.specs.Kinds.{IsKind}
+use Rattle.record.specs.Decoded.{ObservationFits}
+use Rattle.element_step.specs.declared.Intake.{Intake}
 
 -- the ranges of an element that its move relies on
 pub record ElementInRange (e : Element) : Type 0 where
-  pub noise : e .noise .0 ≤ C
-  pub rain : e .rain .0 ≤ 100000000
+  pub kind : IsKind (e .kind)
+  pub systemNoise : e .«system_noise» .0 ≤ C
+  pub rainNoise : e .«rain_noise» .0 ≤ 100000000
+
+-- and of all that it takes in
+pub record StepInRange (e : Element) (H : ℕ) (intake : Intake) (before : Figures) : Type 0 where
+  pub element : ElementInRange e
+  pub weight : H ≤ S
+  pub lead : intake .lead ≤ 12
+  pub observation : ObservationFits (intake .observation)
+  pub old : FiguresFit before

@@ -1,19 +1,23 @@
 -- Document 01, One step: what one element takes in, how it moves, how a reading corrects it.
 use Prim.Native.Nat.{ℕ}
-use mathlib.Core.Bool.{cond}
 use mathlib.Core.List.{List, [], _++_}
-use lib.Dec.{eqb}
+use Rattle.refusal.specs.Answers.{Answer, refused}
 use Rattle.method.specs.declared.Figures.{Figures}
-use Rattle.method.specs.Inflow.{inflowNumbers}
+use Rattle.method.specs.Inflow.{noInflow, inflowNumbers, inflowAnswer}
 use Rattle.method.specs.Routing.{routed, routingNumbers}
 use Rattle.method.specs.Correction.{corrected, correctionNumbers}
 use Rattle.elements.specs.declared.Element.{Element}
+use Rattle.elements.specs.Kinds.{byKind}
 use Rattle.record.specs.declared.Observation.{Observation}
 use Rattle.record.specs.declared.Observation.the-variants.{Nothing, Rated}
 
 -- the inflow: a basin's own, a reach's from above
 unfoldable pub inflowOf : ℕ → Figures → Figures → Figures
-inflowOf kind own above = cond (eqb kind 1) own above
+inflowOf kind own above = byKind kind own above noInflow
+
+-- the same, judged by 16; "all other bytes refused", by 5: "An element's kind .. is out of range."
+unfoldable pub inflowOfAnswer : ℕ → Figures → Figures → Answer Figures
+inflowOfAnswer kind own above = byKind kind (inflowAnswer own) (inflowAnswer above) (refused 5)
 
 -- "A reading then corrects the element before anything below it is worked out."
 unfoldable pub correctedBy : Observation → Figures → Figures
@@ -22,7 +26,7 @@ correctedBy (Rated z noise) x = corrected (noise .0) (z .0) x
 
 -- the move of an element with the weight H
 unfoldable pub moved : ℕ → Element → Figures → Figures → Figures
-moved H e inflow old = routed H (e .noise .0) inflow old
+moved H e inflow old = routed H (e .«system_noise» .0) inflow old
 
 -- its new figures, from its own inflow, an observation, what drains into it, and its old figures
 unfoldable pub elementStep : ℕ → Element → Figures → Observation → Figures → Figures → Figures
@@ -35,7 +39,8 @@ observationNumbers Nothing x = []
 observationNumbers (Rated z noise) x = correctionNumbers (noise .0) (z .0) x
 
 unfoldable pub moveNumbers : ℕ → Element → Observation → Figures → Figures → List ℕ
-moveNumbers H e o inflow old = routingNumbers H (e .noise .0) inflow old ++ observationNumbers o (moved H e inflow old)
+moveNumbers H e o inflow old =
+    routingNumbers H (e .«system_noise» .0) inflow old ++ observationNumbers o (moved H e inflow old)
 
 unfoldable pub elementNumbers : ℕ → Element → Figures → Observation → Figures → Figures → List ℕ
 elementNumbers H e own o above old =

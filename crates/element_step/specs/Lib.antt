@@ -1,3 +1,4 @@
 pub mod ElementStep
 pub mod Rains
 pub mod Bounds
+pub mod Answers

@@ -1,10 +1,12 @@
 -- Document 01, Forecast: "each basin's last three rains, latest first".
 use Prim.Native.Nat.{ℕ}
-use mathlib.Core.Bool.{cond}
-use lib.Dec.{eqb}
+use Rattle.elements.specs.Kinds.{byKind}
 use Rattle.state.specs.declared.Rains.{Rains}
 
--- after a step; "A reach's rain places, if kept, are neither read nor changed."
+-- after a step with one rain more
+unfoldable pub shiftedRains : ℕ → Rains → Rains
+shiftedRains rain before = record { first = rain; second = before .first; third = before .second }
+
+-- of an element; "A reach's rain places, if kept, are neither read nor changed."
 unfoldable pub rainsAfter : ℕ → ℕ → Rains → Rains
-rainsAfter kind rain before =
-    cond (eqb kind 1) (record { first = rain; second = before .first; third = before .second }) before
+rainsAfter kind rain before = byKind kind (shiftedRains rain before) before before

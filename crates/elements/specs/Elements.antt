@@ -16,10 +16,10 @@ elementAt table i =
       lag = number16 table (at + 2);
       area = number32 table (at + 4);
       runoff = number16 table (at + 8);
-      discharge = grains (number32 table (at + 10));
-      variance = thousandths (number32 table (at + 14));
-      noise = thousandths (number32 table (at + 18));
-      rain = thousandths (number32 table (at + 22));
+      «first_discharge» = grains (number32 table (at + 10));
+      «first_variance» = thousandths (number32 table (at + 14));
+      «system_noise» = thousandths (number32 table (at + 18));
+      «rain_noise» = thousandths (number32 table (at + 22));
     }
 
 -- an unused place
@@ -31,8 +31,8 @@ noElement =
       lag = 0;
       area = 0;
       runoff = 0;
-      discharge = grains 0;
-      variance = thousandths 0;
-      noise = thousandths 0;
-      rain = thousandths 0;
+      «first_discharge» = grains 0;
+      «first_variance» = thousandths 0;
+      «system_noise» = thousandths 0;
+      «rain_noise» = thousandths 0;
     }

@@ -1,32 +1,33 @@
 -- Document 01, Numbers for no, 5 and 6, with the ranges of The table.
 use Prim.Native.Nat.{ℕ, _+_, _-_}
-use mathlib.Core.Bool.{Bool, false, not, cond, _&&_, _||_}
+use mathlib.Core.Bool.{Bool, false, not, _&&_, _||_}
 use lib.Dec.{ltb, leb, eqb}
 use Rattle.units.specs.Units.{C}
 use Rattle.fields.specs.Ranges.{inRange}
 use Rattle.elements.specs.declared.Element.{Element}
+use Rattle.elements.specs.Kinds.{basin, byKind}
 
 -- 5: "An element's kind or any field but down is out of range."
 -- "Basin: area 1 to 400,000, f 0 to 1,000, G 0 to 100,000,000."
 unfoldable pub basinFits : Element → Bool
-basinFits e = (inRange (e .area) 1 400000 && inRange (e .runoff) 0 1000) && inRange (e .rain .0) 0 100000000
+basinFits e = (inRange (e .area) 1 400000 && inRange (e .runoff) 0 1000) && inRange (e .«rain_noise» .0) 0 100000000
 
 -- "Reach: all three zero."
 unfoldable pub reachFits : Element → Bool
-reachFits e = (eqb (e .area) 0 && eqb (e .runoff) 0) && eqb (e .rain .0) 0
+reachFits e = (eqb (e .area) 0 && eqb (e .runoff) 0) && eqb (e .«rain_noise» .0) 0
 
--- "kind (1; 1 basin, 2 reach)"
+-- "kind (1; 1 basin, 2 reach)": another byte is refused
 unfoldable pub kindFits : Element → Bool
-kindFits e = cond (eqb (e .kind) 1) (basinFits e) (cond (eqb (e .kind) 2) (reachFits e) false)
+kindFits e = byKind (e .kind) (basinFits e) (reachFits e) false
 
 -- "Lag from T to 60,000." "W 0 to 100,000,000." "First values 0 to C."
 unfoldable pub elementFits : ℕ → Element → Bool
 elementFits T e =
-    (((kindFits e && inRange (e .lag) T 60000) && inRange (e .discharge .0) 0 C) && inRange (e .variance .0) 0 C)
-    && inRange (e .noise .0) 0 100000000
+    (((kindFits e && inRange (e .lag) T 60000) && inRange (e .«first_discharge» .0) 0 C) && inRange (e .«first_variance» .0) 0 C)
+    && inRange (e .«system_noise» .0) 0 100000000
 
 -- 6: "A down is neither 0 nor a later element, or it names a basin.", of element i of n, counted from 0
 unfoldable pub downFits : ℕ → (ℕ → Element) → ℕ → Bool
 downFits n element i =
     let down = element i .down in
-    eqb down 0 || ((ltb (i + 1) down && leb down n) && not (eqb (element (down - 1) .kind) 1))
+    eqb down 0 || ((ltb (i + 1) down && leb down n) && not (eqb (element (down - 1) .kind) basin))

@@ -9,17 +9,23 @@ use fields::bytes::wide;
 use units::Discharge;
 use units::Variance;
 
-// An element of the table: a basin or a reach, as its kind says.
+// The kinds of an element, by their bytes. What a kind decides is chosen by a match that names every kind; every other byte is refused
+// by rule 5.
+pub const BASIN: u64 = 1;
+
+pub const REACH: u64 = 2;
+
+// An element of the table, of one of these kinds.
 pub struct Element {
     pub kind: u64,
     pub down: usize,
     pub lag: u64,
     pub area: u64,
     pub runoff: u64,
-    pub discharge: Discharge,
-    pub variance: Variance,
-    pub noise: Variance,
-    pub rain: Variance,
+    pub first_discharge: Discharge,
+    pub first_variance: Variance,
+    pub system_noise: Variance,
+    pub rain_noise: Variance,
 }
 
 // Element i, counted from 0, all of whose bytes are there.
@@ -34,10 +40,10 @@ pub fn element_at(table: &[u8], i: usize) -> Element
         lag: whole16(table, at + 2),
         area: whole32(table, at + 4),
         runoff: whole16(table, at + 8),
-        discharge: Discharge(whole32(table, at + 10)),
-        variance: Variance(whole32(table, at + 14)),
-        noise: Variance(whole32(table, at + 18)),
-        rain: Variance(whole32(table, at + 22)),
+        first_discharge: Discharge(whole32(table, at + 10)),
+        first_variance: Variance(whole32(table, at + 14)),
+        system_noise: Variance(whole32(table, at + 18)),
+        rain_noise: Variance(whole32(table, at + 22)),
     }
 }
 

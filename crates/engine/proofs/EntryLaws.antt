@@ -1,68 +1,55 @@
 -- Laws of the entries: the rules in checking order, and what an accepted table and record give.
 use Prim.{Unit}
-use Prim.Native.Nat.{ℕ, _≤_, _<_}
+use Prim.Native.Nat.{ℕ}
 use mathlib.Core.Bool.{true, false}
 use mathlib.Core.List.{List}
 use mathlib.Core.Path.{_≡_, refl, sym, ap, subst, _∙_}
-use borrow.Author.Tests.{leb-true}
-use native.Mathlib.Omega.{arith}
-use lib.Dec.{leb, eqb}
-use lib.ListN.{getD}
 use Rattle.refusal.specs.Refusals.{number}
 use Rattle.refusal.specs.Answers.{Answer, accepted, refused}
 use Rattle.refusal.specs.declared.Refusal.{Refusal}
-use Rattle.units.specs.Units.{C}
+use Rattle.refusal.specs.declared.Verdict.{Verdict}
+use Rattle.refusal.specs.declared.Verdict.the-variants.{Accepted, Refused}
+use Rattle.refusal.specs.Verdicts.{verdictAnswer}
 use Rattle.units.specs.Ceiling.{underCeiling}
 use Rattle.method.specs.declared.Figures.{Figures}
-use Rattle.method.specs.Figures.{FiguresFit}
-use Rattle.table.specs.declared.Verdict.{Verdict}
-use Rattle.table.specs.declared.Verdict.the-variants.{Accepted, Refused}
-use Rattle.table.specs.Verdicts.{verdictAnswer}
 use Rattle.table.specs.Tables.{TableValues}
 use Rattle.table.specs.Rules.{tableRules}
 use Rattle.table.specs.InUse.{tableIn}
-use Rattle.fields.proofs.RangeLaws.{both, all-three, all-four, all-at}
-use Rattle.table.proofs.InUseLaws.{below-same}
 use Rattle.table.proofs.TableLaws as table-laws
-use Rattle.record.specs.declared.Input.{Input}
 use Rattle.record.specs.Records.{inputAt}
 use Rattle.record.specs.Rules.{recordRules}
-use Rattle.record.specs.Decoded.{noInput, inputIn, RecordRead}
+use Rattle.record.specs.Decoded.{RecordRead}
 use Rattle.record.proofs.RecordLaws as record-laws
-use Rattle.state.specs.declared.State.{State}
-use Rattle.state.specs.declared.StateAnswer.{StateAnswer}
-use Rattle.state.specs.States.{placeOf}
-use Rattle.state.specs.Rules.{figuresFit, placeFits, stateFits, stepsLeft}
+use Rattle.state.specs.States.{State}
+use Rattle.state.specs.Rules.{stateFits, stepsLeft}
 use Rattle.state.specs.Start.{started}
-use Rattle.network.specs.Step.{stepped, stepNumbers}
-use Rattle.network.specs.Bounds.{inputsOf, InputsFit, FiguresUnder}
-use Rattle.engine.specs.Entries.{startAnswer, inputsIn, stepOnAnswer, forecastOnAnswer, forecastAnswer}
-use Rattle.leads.specs.declared.ForecastAnswer.{ForecastAnswer}
-use Rattle.leads.specs.declared.ForecastAnswer.the-variants as of-forecast
-use Rattle.leads.specs.Answer.{leadsAnswer}
-use Rattle.leads.specs.Lent.{countWritten, lentAfter, Lent}
-use Rattle.state.specs.Answers.{verdict, Answered}
+use Rattle.state.specs.Answers.{Answered}
 use Rattle.state.proofs.AnswerLaws.{answered-refused, answered-accepted}
+use Rattle.network.specs.Step.{stepped, stepNumbers}
+use Rattle.network.specs.declared.ForecastAnswer.{ForecastAnswer}
+use Rattle.network.specs.declared.ForecastAnswer.the-variants as of-forecast
+use Rattle.network.specs.Answer.{leadsAnswer}
+use Rattle.network.specs.Lent.{countWritten, lentAfter, Lent}
+use Rattle.entries.specs.Entries.{startAnswer, stepOnAnswer, forecastOnAnswer, forecastAnswer}
 
 -- ---- the start
 
 pub start-accepted :
-    (bytes : List ℕ) (s next : State) (v : Verdict)
+    (bytes : List ℕ) (s after : State) (v : Verdict)
     → tableRules {A = Unit} bytes (accepted tt) ≡ accepted tt
     → v ≡ Accepted
-    → next ≡ started (tableIn bytes) s
-    → Answered (record { verdict = v; state = next }) (startAnswer bytes s) s
+    → after ≡ started (tableIn bytes) s
+    → Answered v after (startAnswer bytes s) s
 unfolding startAnswer
-start-accepted bytes s next v k e h =
-    answered-accepted e (table-laws.rules-accepted bytes _ k ∙ ap accepted (sym h))
+start-accepted bytes s after v k e h = answered-accepted e (table-laws.rules-accepted bytes _ k) h
 
 -- an answer that the table's rules refuse
 pub refused-by-table :
     (bytes : List ℕ) (rest : Answer State) (s : State) (v : Verdict) (k : Refusal)
     → tableRules {A = Unit} bytes (accepted tt) ≡ refused (number k)
     → v ≡ Refused k
-    → Answered (record { verdict = v; state = s }) (tableRules bytes rest) s
-refused-by-table bytes rest s v k h e = answered-refused e (table-laws.rules-refused bytes rest h)
+    → Answered v s (tableRules bytes rest) s
+refused-by-table bytes rest s v k h e = answered-refused e (table-laws.rules-refused bytes rest h) refl
 
 -- ---- the step
 
@@ -83,49 +70,21 @@ module _ (t : TableValues) (bytes : List ℕ) (s : State) where
 
       pub record-accepted :
           recordRules {A = Unit} t bytes (accepted tt) ≡ accepted tt
-          → stepOnAnswer t bytes s ≡ underCeiling (stepNumbers t (inputsIn t bytes) s) (stepped t (inputsIn t bytes) s)
+          → stepOnAnswer t bytes s ≡ underCeiling (stepNumbers t (inputAt t bytes) s) (stepped t (inputAt t bytes) s)
       unfolding stepOnAnswer
       record-accepted r = rw (h, l) (record-laws.rules-accepted t bytes _ r)
 
--- what an accepted record gives
-module _
-    (t : TableValues) (bytes : List ℕ) {v : Verdict} {numbers : List ℕ} (h : RecordRead t bytes v numbers)
-    (e : v ≡ Accepted) where
-  pub record-kept : recordRules {A = Unit} t bytes (accepted tt) ≡ accepted tt
-  record-kept = sym (h .decided) ∙ ap verdictAnswer e
+-- what the verdict on a record says of its rules
+module _ (t : TableValues) (bytes : List ℕ) {v : Verdict} {numbers : List ℕ} (h : RecordRead t bytes v numbers) where
+  pub record-kept : v ≡ Accepted → recordRules {A = Unit} t bytes (accepted tt) ≡ accepted tt
+  record-kept e = sym (h .decided) ∙ ap verdictAnswer e
 
-  input-is : (i : ℕ) → i < t .elements → inputIn numbers i ≡ inputAt t bytes i
-  unfolding inputAt
-  input-is i l = h .inputs record-kept .at i l
-
-  pub inputs-are : inputsOf (t .elements) numbers ≡ inputsIn t bytes
-  unfolding inputsOf inputsIn
-  inputs-are = below-same (t .elements) noInput _ _ input-is
-
-  pub inputs-fit : InputsFit numbers (t .elements)
-  inputs-fit = record { at = λ i l. rw (input-is i l) (h .fits record-kept i l) }
-
-pub record-verdict :
-    (t : TableValues) (bytes : List ℕ) {v : Verdict} {numbers : List ℕ}
-    → RecordRead t bytes v numbers
-    → {k : Refusal}
-    → v ≡ Refused k
-    → recordRules {A = Unit} t bytes (accepted tt) ≡ refused (number k)
-record-verdict t bytes h e = sym (h .decided) ∙ ap verdictAnswer e
+  pub record-verdict : {k : Refusal} → v ≡ Refused k → recordRules {A = Unit} t bytes (accepted tt) ≡ refused (number k)
+  record-verdict e = sym (h .decided) ∙ ap verdictAnswer e
 
 -- an answer known by another name
-pub answered-as :
-    {r : StateAnswer} {a b : Answer State} {s : State} → a ≡ b → Answered r b s → Answered r a s
-answered-as {r} {a} {b} {s} e h = subst (λ (x : Answer State). Answered r x s) (sym e) h
-
--- an answer on equal inputs
-pub answered-inputs :
-    {r : StateAnswer} (t : TableValues) (told told′ : ℕ → Input) (s : State)
-    → told ≡ told′
-    → Answered r (underCeiling (stepNumbers t told s) (stepped t told s)) s
-    → Answered r (underCeiling (stepNumbers t told′ s) (stepped t told′ s)) s
-answered-inputs {r} t told told′ s e h =
-    subst (λ (x : ℕ → Input). Answered r (underCeiling (stepNumbers t x s) (stepped t x s)) s) e h
+pub answered-as : {v : Verdict} {after : State} {a b : Answer State} {s : State} → a ≡ b → Answered v after b s → Answered v after a s
+answered-as {v} {after} {a} {b} {s} e h = subst (λ (x : Answer State). Answered v after x s) (sym e) h
 
 -- ---- the forecast
 

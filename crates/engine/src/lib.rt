@@ -1,114 +1,189 @@
+// The entries of document 01: start, step and forecast, on the bytes of a table and on lent numbers.
 ghost use mathlib.Core.Path.{_≡_};
 ghost use mathlib.Core.Bool.{true};
+ghost use Prim.Native.Nat.{_≤_};
 ghost use lib.ListN.{length};
-ghost use Rattle.table.specs.declared.Verdict.the-variants.{Refused};
+ghost use Rattle.sizes.specs.Sizes.{smallElements};
 ghost use Rattle.table.specs.InUse.{tableIn};
-ghost use Rattle.plan.specs.Plans.{PlanFits};
-ghost use Rattle.engine.specs.Entries.{startAnswer, stepOnAnswer, stepAnswer, forecastOnAnswer, forecastAnswer};
-ghost use Rattle.leads.specs.Lent.{Lent};
-ghost use Rattle.state.specs.Answers.{Answered};
 ghost use Rattle.state.specs.Rules.{stateFits};
-use leads::ForecastAnswer;
+ghost use Rattle.state.specs.Answers.{Answered};
+ghost use Rattle.plan.specs.Plans.{PlanFits};
+ghost use Rattle.network.specs.Lent.{Lent};
+ghost use Rattle.entries.specs.Entries.{startAnswer, stepOnAnswer, stepAnswer, forecastOnAnswer, forecastAnswer};
+ghost use Rattle.engine.specs.Held.{Counted};
+use network::ForecastAnswer;
 use plan::Plan;
 use refusal::Refusal;
-use state::State;
-use state::StateAnswer;
-use table::Verdict;
+use refusal::Verdict;
+use sizes::MOST_ELEMENTS;
+use sizes::OBSERVED_NUMBERS;
+use sizes::SMALL_ELEMENTS;
+use sizes::STATE_NUMBERS;
+use table::Counts;
 
-fn refused(refusal: Refusal, state: State) -> StateAnswer
-    ensures { λ r. ⌜ r ≡ record { verdict = Refused refusal; state = state } ⌝ }
-{
-    StateAnswer {
-        verdict: Verdict::Refused(refusal),
-        state,
-    }
-}
-
-// Starts a river on the bytes of a table, from any state.
-pub fn start(table: &[u8], state: State) -> StateAnswer
-    ensures { λ r. ⌜ Answered r (startAnswer (now (table .entry)) state) state ⌝ }
+// Starts a river on the bytes of a table, from any state: rules 1 to 7.
+pub fn start(table: &[u8], state: &mut [u64; STATE_NUMBERS]) -> Verdict
+    ensures { λ r. ⌜ Answered r (now (state .exit)) (startAnswer (now (table .entry)) (now (state .entry))) (now (state .entry)) ⌝ }
 {
     let read = table_reader::read(table);
     let verdict = read.verdict;
     let counts = read.counts;
     match verdict {
         Verdict::Accepted => {
-            let next = first_values::start_on(table, counts.elements, state);
-            StateAnswer {
-                verdict,
-                state: next,
-            }
+            first_values::start_on(table, counts.elements, state);
+            verdict
         }
-        Verdict::Refused(_) => StateAnswer { verdict, state },
+        Verdict::Refused(_) => verdict,
     }
 }
 
-// A step on an accepted table, its plan and the bytes of a record from a state that rule 8 accepts: rules 9 to 14 and 16.
-pub fn step_from(table: &[u8], plan: Plan, bytes: &[u8], state: State) -> StateAnswer
-    requires { ⌜ PlanFits (now table) plan × (stateFits (tableIn (now table)) state ≡ true) ⌝ }
-    ensures { λ r. ⌜ Answered r (stepOnAnswer (tableIn (now (table .entry))) (now (bytes .entry)) state) state ⌝ }
+// A step on an accepted table, its plan and weights, and the bytes of a record, from a state that rule 8 accepts: rules 9 to 14 and 16.
+pub fn step_from(
+    table: &[u8],
+    plan: Plan,
+    weights: &[u64],
+    bytes: &[u8],
+    state: &mut [u64; STATE_NUMBERS],
+) -> Verdict
+    requires { ⌜ PlanFits (now table) plan (now weights) × (stateFits (tableIn (now table)) (now state) ≡ true) ⌝ }
+    ensures { λ r. ⌜ Answered r (now (state .exit)) (stepOnAnswer (tableIn (now (table .entry))) (now (bytes .entry)) (now (state .entry))) (now (state .entry)) ⌝ }
 {
-    if !state::steps_left(state) {
-        return refused(Refusal::StepLimit, state);
+    if !state::steps_left(&*state) {
+        return Verdict::Refused(Refusal::StepLimit);
     }
-    let mut told = [0u64; 192];
+    let mut observed = [0u64; OBSERVED_NUMBERS];
     let verdict = record_reader::read(
         bytes,
         table,
         plan.elements,
         plan.gauges,
         plan.basins,
-        &mut told,
+        &mut observed,
     );
     match verdict {
-        Verdict::Accepted => network::step_on(table, plan, &told, state),
-        Verdict::Refused(_) => StateAnswer { verdict, state },
+        Verdict::Accepted => network_step::step_on(table, plan, weights, bytes, &observed, state),
+        Verdict::Refused(_) => verdict,
     }
 }
 
-// A step on an accepted table, its plan and the bytes of a record: rules 8 to 14 and 16.
-fn step_with(table: &[u8], plan: Plan, bytes: &[u8], state: State) -> StateAnswer
-    requires { ⌜ PlanFits (now table) plan ⌝ }
-    ensures { λ r. ⌜ Answered r (stepOnAnswer (tableIn (now (table .entry))) (now (bytes .entry)) state) state ⌝ }
+// The weights of a small river, and of any.
+fn step_small(
+    table: &[u8],
+    counts: Counts,
+    bytes: &[u8],
+    state: &mut [u64; STATE_NUMBERS],
+) -> Verdict
+    requires { ⌜ Counted (now table) counts × ((stateFits (tableIn (now table)) (now state) ≡ true) × (counts .elements ≤ smallElements)) ⌝ }
+    ensures { λ r. ⌜ Answered r (now (state .exit)) (stepOnAnswer (tableIn (now (table .entry))) (now (bytes .entry)) (now (state .entry))) (now (state .entry)) ⌝ }
 {
-    if !state_rules::state_fits(table, plan.elements, state) {
-        return refused(Refusal::StateRange, state);
+    let mut weights = [0u64; SMALL_ELEMENTS];
+    let plan = plan::prepare(table, counts, &mut weights);
+    step_from(table, plan, &weights, bytes, state)
+}
+
+fn step_large(
+    table: &[u8],
+    counts: Counts,
+    bytes: &[u8],
+    state: &mut [u64; STATE_NUMBERS],
+) -> Verdict
+    requires { ⌜ Counted (now table) counts × (stateFits (tableIn (now table)) (now state) ≡ true) ⌝ }
+    ensures { λ r. ⌜ Answered r (now (state .exit)) (stepOnAnswer (tableIn (now (table .entry))) (now (bytes .entry)) (now (state .entry))) (now (state .entry)) ⌝ }
+{
+    let mut weights = [0u64; MOST_ELEMENTS];
+    let plan = plan::prepare(table, counts, &mut weights);
+    step_from(table, plan, &weights, bytes, state)
+}
+
+// A step on an accepted table and the bytes of a record: rules 8 to 14 and 16.
+fn step_counted(
+    table: &[u8],
+    counts: Counts,
+    bytes: &[u8],
+    state: &mut [u64; STATE_NUMBERS],
+) -> Verdict
+    requires { ⌜ Counted (now table) counts ⌝ }
+    ensures { λ r. ⌜ Answered r (now (state .exit)) (stepOnAnswer (tableIn (now (table .entry))) (now (bytes .entry)) (now (state .entry))) (now (state .entry)) ⌝ }
+{
+    if !state_rules::state_fits(table, counts.elements, &*state) {
+        return Verdict::Refused(Refusal::StateRange);
     }
-    step_from(table, plan, bytes, state)
+    if counts.elements <= SMALL_ELEMENTS {
+        step_small(table, counts, bytes, state)
+    } else {
+        step_large(table, counts, bytes, state)
+    }
 }
 
 // A step on the bytes of a table and of a record: rules 1 to 14 and 16.
-pub fn step(table: &[u8], bytes: &[u8], state: State) -> StateAnswer
-    ensures { λ r. ⌜ Answered r (stepAnswer (now (table .entry)) (now (bytes .entry)) state) state ⌝ }
+pub fn step(table: &[u8], bytes: &[u8], state: &mut [u64; STATE_NUMBERS]) -> Verdict
+    ensures { λ r. ⌜ Answered r (now (state .exit)) (stepAnswer (now (table .entry)) (now (bytes .entry)) (now (state .entry))) (now (state .entry)) ⌝ }
 {
-    let prepared = plan::prepare(table);
-    let verdict = prepared.verdict;
-    let plan = prepared.plan;
+    let read = table_reader::read(table);
+    let verdict = read.verdict;
     match verdict {
-        Verdict::Accepted => step_with(table, plan, bytes, state),
-        Verdict::Refused(_) => StateAnswer { verdict, state },
+        Verdict::Accepted => step_counted(table, read.counts, bytes, state),
+        Verdict::Refused(_) => verdict,
     }
 }
 
-// A forecast on an accepted table and its plan into lent space: rules 8, 15 and 16.
-fn forecast_with(table: &[u8], plan: Plan, state: State, out: &mut [u64]) -> ForecastAnswer
-    requires { ⌜ PlanFits (now table) plan ⌝ }
-    ensures { λ r. ⌜ Lent r (now (out .exit)) (forecastOnAnswer (tableIn (now (table .entry))) state (length (now (out .entry)))) (now (out .entry)) ⌝ }
+// The weights of a small river, and of any, for a forecast.
+fn forecast_small(
+    table: &[u8],
+    counts: Counts,
+    state: &[u64; STATE_NUMBERS],
+    out: &mut [u64],
+) -> ForecastAnswer
+    requires { ⌜ Counted (now table) counts × ((stateFits (tableIn (now table)) (now state) ≡ true) × (counts .elements ≤ smallElements)) ⌝ }
+    ensures { λ r. ⌜ Lent r (now (out .exit)) (forecastOnAnswer (tableIn (now (table .entry))) (now (state .entry)) (length (now (out .entry)))) (now (out .entry)) ⌝ }
 {
-    if !state_rules::state_fits(table, plan.elements, state) {
+    let mut weights = [0u64; SMALL_ELEMENTS];
+    let plan = plan::prepare(table, counts, &mut weights);
+    leads::forecast_on(table, plan, &weights, state, out)
+}
+
+fn forecast_large(
+    table: &[u8],
+    counts: Counts,
+    state: &[u64; STATE_NUMBERS],
+    out: &mut [u64],
+) -> ForecastAnswer
+    requires { ⌜ Counted (now table) counts × (stateFits (tableIn (now table)) (now state) ≡ true) ⌝ }
+    ensures { λ r. ⌜ Lent r (now (out .exit)) (forecastOnAnswer (tableIn (now (table .entry))) (now (state .entry)) (length (now (out .entry)))) (now (out .entry)) ⌝ }
+{
+    let mut weights = [0u64; MOST_ELEMENTS];
+    let plan = plan::prepare(table, counts, &mut weights);
+    leads::forecast_on(table, plan, &weights, state, out)
+}
+
+// A forecast on an accepted table into lent space: rules 8, 15 and 16.
+fn forecast_counted(
+    table: &[u8],
+    counts: Counts,
+    state: &[u64; STATE_NUMBERS],
+    out: &mut [u64],
+) -> ForecastAnswer
+    requires { ⌜ Counted (now table) counts ⌝ }
+    ensures { λ r. ⌜ Lent r (now (out .exit)) (forecastOnAnswer (tableIn (now (table .entry))) (now (state .entry)) (length (now (out .entry)))) (now (out .entry)) ⌝ }
+{
+    if !state_rules::state_fits(table, counts.elements, state) {
         return ForecastAnswer::Refused(Refusal::StateRange);
     }
-    leads::forecast_on(table, plan, state, out)
+    if counts.elements <= SMALL_ELEMENTS {
+        forecast_small(table, counts, state, out)
+    } else {
+        forecast_large(table, counts, state, out)
+    }
 }
 
 // A forecast on the bytes of a table into lent space: rules 1 to 8, 15 and 16.
-pub fn forecast(table: &[u8], state: State, out: &mut [u64]) -> ForecastAnswer
-    ensures { λ r. ⌜ Lent r (now (out .exit)) (forecastAnswer (now (table .entry)) state (length (now (out .entry)))) (now (out .entry)) ⌝ }
+pub fn forecast(table: &[u8], state: &[u64; STATE_NUMBERS], out: &mut [u64]) -> ForecastAnswer
+    ensures { λ r. ⌜ Lent r (now (out .exit)) (forecastAnswer (now (table .entry)) (now (state .entry)) (length (now (out .entry)))) (now (out .entry)) ⌝ }
 {
-    let prepared = plan::prepare(table);
-    let verdict = prepared.verdict;
+    let read = table_reader::read(table);
+    let verdict = read.verdict;
     match verdict {
-        Verdict::Accepted => forecast_with(table, prepared.plan, state, out),
+        Verdict::Accepted => forecast_counted(table, read.counts, state, out),
         Verdict::Refused(refusal) => ForecastAnswer::Refused(refusal),
     }
 }

@@ -3,7 +3,7 @@ use Prim.Native.Nat.{ℕ, _+_, _*_}
 use native.Mathlib.Omega.{arith}
 use Rattle.weighting.specs.declared.Estimate.{Estimate}
 use Rattle.method.specs.declared.Figures.{Figures}
-use Rattle.method.specs.Routing.{routedDischarge, keptVariance, broughtVariance, routedVariance, routed}
+use Rattle.method.specs.Routing.{routedDischarge, oldVariancePart, inflowVariancePart, routedVariance, routed}
 use Rattle.exact.specs.Fraction.{Fraction, whole, _⊕_, _⊖_, _⊗_}
 use Rattle.exact.specs.Exact.{ExactFigures, exactBlend, exactVariance, exactRouted}
 use Rattle.exact.specs.Margins.{Tracks, Follows}
@@ -47,7 +47,7 @@ variance-tracks :
     → Tracks inflow u
     → Tracks old v
     → Tracks (routedVariance H W inflow old) (exactVariance f W u v)
-unfolding routedVariance keptVariance broughtVariance exactVariance
+unfolding routedVariance oldVariancePart inflowVariancePart exactVariance
 variance-tracks W h t s =
     plus-tracks W
     (squares-track h s t

@@ -7,7 +7,7 @@ use borrow.Author.Tests.{eqb-true, eqb-false}
 use native.Mathlib.Nat.{mul-le-mul-left, eq-or-lt-of-le}
 use native.Mathlib.Omega.{arith}
 use lib.Dec.{eqb}
-use Rattle.exact_run.specs.Limit.{next, leadsTo, counted, atOrAbove, Quiet}
+use Rattle.exact_run.specs.Limit.{next, leadsTo, counted, atOrAbove, NoReading}
 
 -- f 1 + .. + f n
 unfoldable pub total : (ℕ → ℕ) → ℕ → ℕ
@@ -274,16 +274,16 @@ module _
         here (suc f) k j i e,
       )
 
-  module _ (heard : ℕ → Bool) where
-    -- no reading has come in at a quiet element, nor at or above one that drains into it
-    pub quiet-here : (i : ℕ) → 1 ≤ i → i ≤ n → Quiet n down heard i → heard i ≡ false
+  module _ (hasReading : ℕ → Bool) where
+    -- where none has come in at or above an element, none has at it, nor at or above one that drains into it
+    pub no-reading-here : (i : ℕ) → 1 ≤ i → i ≤ n → NoReading n down hasReading i → hasReading i ≡ false
     unfolding leads
-    quiet-here i h l q = q .silent i h l (one-true (leadsTo down i n i) (itself n i))
+    no-reading-here i h l q = q .none i h l (one-true (leadsTo down i n i) (itself n i))
 
-    pub quiet-above :
-        (j i : ℕ) → 1 ≤ i → i ≤ n → next down j ≡ i → Quiet n down heard i → Quiet n down heard j
+    pub no-reading-above :
+        (j i : ℕ) → 1 ≤ i → i ≤ n → next down j ≡ i → NoReading n down hasReading i → NoReading n down hasReading j
     unfolding leads one
-    quiet-above j i h l e q = record {
-      silent = λ k u v p. q .silent k u v (one-true (leadsTo down i n k)
+    no-reading-above j i h l e q = record {
+      none = λ k u v p. q .none k u v (one-true (leadsTo down i n k)
           (omega (arith, onward n k j i e, enough n k i h v (omega arith), ap one p)));
     }

@@ -9,6 +9,7 @@ use native.Mathlib.Nat.{mul-le-mul, mul-le-mul-left, eq-or-lt-of-le}
 use native.Mathlib.Numerals.{add-one}
 use native.Mathlib.Omega.{arith}
 use lib.Dec.{eqb}
+use Rattle.sizes.specs.Sizes.{mostElements, mostLeads}
 use Rattle.units.specs.Units.{C, S}
 use Rattle.method.specs.declared.Figures.{Figures}
 use Rattle.method.specs.Figures.{discharge}
@@ -16,16 +17,16 @@ use Rattle.method.specs.Inflow.{noInflow, joinedInflow}
 use Rattle.method.specs.Routing.{routed}
 use Rattle.exact.proofs.Theorems.{routing-margin-growth}
 use Rattle.weighting.proofs.WeightLaws.{weight-most}
+use Rattle.elements.proofs.KindLaws.{kind-cases}
 use Rattle.table.specs.Tables.{TableValues}
 use Rattle.table.specs.Bounds.{TableBounds}
 use Rattle.record.specs.declared.Observation.{Observation}
 use Rattle.record.specs.declared.Observation.the-variants.{Nothing}
-use Rattle.plan.specs.Plans.{weightOf}
-use Rattle.network.specs.Walk.{drained, walked, gathered, newCell}
+use Rattle.walk.specs.Walk.{drained, walked, gathered, newCell}
 use Rattle.element_step.specs.ElementStep.{inflowOf, correctedBy, moved, elementStep}
-use Rattle.network.specs.Step.{networkDown, networkCell, aboveOf, newFigures}
-use Rattle.exact_run.specs.Limit.{next, atOrAbove, Quiet}
-use Rattle.exact_run.proofs.AboveLaws.{total, same, one, total-longer, above-most, above-sum, quiet-here, quiet-above}
+use Rattle.network.specs.Step.{weightOf, networkDown, networkCell, networkOutflow, aboveOf, newFigures}
+use Rattle.exact_run.specs.Limit.{next, atOrAbove, NoReading}
+use Rattle.exact_run.proofs.AboveLaws.{total, same, one, total-longer, above-most, above-sum, no-reading-here, no-reading-above}
 
 abbrev marginOf : Figures → ℕ
 marginOf f = f .«discharge_margin» .0
@@ -34,8 +35,8 @@ marginOf f = f .«discharge_margin» .0
 move-limit :
     (H n d : ℕ) (inflow old : Figures)
     → H ≤ S
-    → suc n ≤ 10_012
-    → suc d ≤ 64
+    → suc n ≤ 10_000 + mostLeads
+    → suc d ≤ mostElements
     → inflow .discharge .0 ≤ C
     → old .discharge .0 ≤ C
     → marginOf inflow ≤ 16 * suc n * d + 1
@@ -56,12 +57,9 @@ inflow-margin :
     → marginOf own ≤ 1
     → marginOf above ≤ m
     → marginOf (inflowOf kind own above) ≤ m + 1
-unfolding inflowOf
-inflow-margin kind m own above p q = go (eqb kind 1)
-  where
-    go : (basin : Bool) → marginOf (cond basin own above) ≤ m + 1
-    go true = omega arith
-    go false = omega arith
+unfolding inflowOf noInflow
+inflow-margin kind m own above p q =
+    kind-cases (λ (f : Figures). marginOf f ≤ m + 1) kind (λ _. omega arith) (λ _. omega arith) (λ _ _. omega arith)
 
 not-corrected : (o : Observation) (x : Figures) → o ≡ Nothing → correctedBy o x ≡ x
 unfolding correctedBy
@@ -71,27 +69,27 @@ still : (a b : Bool) → (a ≡ true → b ≡ true) → b ≡ false → a ≡ f
 still true b f e = sym (f refl) ∙ e
 still false b f e = refl
 
--- quiet after, quiet before
-quiet-before :
-    (n : ℕ) (down : ℕ → ℕ) (heard heard′ : ℕ → Bool) (i : ℕ)
-    → ((k : ℕ) → heard k ≡ true → heard′ k ≡ true)
-    → Quiet n down heard′ i
-    → Quiet n down heard i
-quiet-before n down heard heard′ i f q = record { silent = λ k u v p. still (heard k) (heard′ k) (f k) (q .silent k u v p) }
+-- where no reading has come in by now, none had before
+no-reading-before :
+    (n : ℕ) (down : ℕ → ℕ) (hasReading hasReading′ : ℕ → Bool) (i : ℕ)
+    → ((k : ℕ) → hasReading k ≡ true → hasReading′ k ≡ true)
+    → NoReading n down hasReading′ i
+    → NoReading n down hasReading i
+no-reading-before n down hasReading hasReading′ i f q = record { none = λ k u v p. still (hasReading k) (hasReading′ k) (f k) (q .none k u v p) }
 
 module _
-    (t : TableValues) (own : ℕ → Figures) (o : ℕ → Observation) (old : ℕ → Figures) (heard heard′ : ℕ → Bool) (n : ℕ)
-    (b : TableBounds t) (few : suc n ≤ 10_012)
+    (t : TableValues) (own : ℕ → Figures) (o : ℕ → Observation) (old : ℕ → Figures) (hasReading hasReading′ : ℕ → Bool) (n : ℕ)
+    (b : TableBounds t) (few : suc n ≤ 10_000 + mostLeads)
     (old-fits : (i : ℕ) → i < t .elements → old i .discharge .0 ≤ C)
     (inflow-fits :
     (i : ℕ) → i < t .elements → inflowOf (t .element i .kind) (own i) (aboveOf t own o old i) .discharge .0 ≤ C)
     (own-margin : (i : ℕ) → i < t .elements → marginOf (own i) ≤ 1)
-    (heard-on : (k : ℕ) → heard k ≡ true → heard′ k ≡ true)
-    (unheard : (i : ℕ) → i < t .elements → heard′ (i + 1) ≡ false → o i ≡ Nothing)
+    (readings-stay : (k : ℕ) → hasReading k ≡ true → hasReading′ k ≡ true)
+    (not-observed : (i : ℕ) → i < t .elements → hasReading′ (i + 1) ≡ false → o i ≡ Nothing)
     (before :
     (i : ℕ)
     → i < t .elements
-    → Quiet (t .elements) (networkDown t) heard (i + 1)
+    → NoReading (t .elements) (networkDown t) hasReading (i + 1)
     → marginOf (old i) ≤ 16 * n * atOrAbove (t .elements) (networkDown t) (i + 1)) where
   abbrev many : ℕ
   many = t .elements
@@ -99,8 +97,8 @@ module _
   abbrev down : ℕ → ℕ
   down = networkDown t
 
-  abbrev quiet : ℕ → Type 0
-  quiet k = Quiet many down heard′ k
+  abbrev WithoutReading : ℕ → Type 0
+  WithoutReading k = NoReading many down hasReading′ k
 
   down-most : (j : ℕ) → j < many → down j ≤ many
   unfolding networkDown
@@ -112,25 +110,25 @@ module _
 
   -- the limit at element i
   abbrev Low : ℕ → Type 0
-  Low i = quiet (suc i) → marginOf (newFigures t own o old i) ≤ 16 * suc n * atOrAbove many down (suc i)
+  Low i = WithoutReading (suc i) → marginOf (newFigures t own o old i) ≤ 16 * suc n * atOrAbove many down (suc i)
 
   -- how many are above number k by way of the first i elements
   unfoldable aboveBy : ℕ → ℕ → ℕ
   aboveBy k i = total (λ j. same (next down j) k * atOrAbove many down j) i
 
   abbrev done : ℕ → List (ℕ × Figures)
-  done i = walked noInflow joinedInflow down (networkCell t own o) old i
+  done i = walked noInflow joinedInflow down (networkCell t own o) networkOutflow old i
 
   drained-low :
       (k : ℕ)
       → 1 ≤ k
       → k ≤ many
-      → quiet k
+      → WithoutReading k
       → (i : ℕ)
       → i ≤ many
       → ((j : ℕ) → j < i → Low j)
       → marginOf (drained noInflow joinedInflow k (done i)) ≤ 16 * suc n * aboveBy k i
-  unfolding drained walked noInflow joinedInflow aboveBy total same one next newFigures newCell gathered
+  unfolding drained walked networkOutflow noInflow joinedInflow aboveBy total same one next newFigures newCell gathered
   drained-low k h l q zero m low = omega arith
   drained-low k h l q (suc i) m low =
       go (drained-low k h l q i (omega arith) (λ j u. low j (omega arith))) (eqb (down i) k) refl
@@ -145,7 +143,7 @@ module _
           omega (
             arith,
             so-far,
-            low i (omega arith) (quiet-above many down down-most down-later heard′ (suc i) k h l (eqb-true (down i) k e) q),
+            low i (omega arith) (no-reading-above many down down-most down-later hasReading′ (suc i) k h l (eqb-true (down i) k e) q),
           )
       go so-far false e = omega (arith, so-far)
 
@@ -153,18 +151,18 @@ module _
   unfolding newFigures newCell networkCell elementStep moved weightOf aboveOf gathered aboveBy
   cell-low i l low q =
       subst (λ (x : Figures). marginOf x ≤ 16 * suc n * atOrAbove many down (suc i))
-      (sym (not-corrected (o i) _ (unheard i l silent)))
+      (sym (not-corrected (o i) _ (not-observed i l none)))
       (go (atOrAbove many down (suc i)) refl)
     where
-      silent : heard′ (i + 1) ≡ false
-      silent =
-          subst (λ (k : ℕ). heard′ k ≡ false) (sym (add-one i))
-          (quiet-here many down down-most down-later heard′ (suc i) (omega arith) l q)
+      none : hasReading′ (i + 1) ≡ false
+      none =
+          subst (λ (k : ℕ). hasReading′ k ≡ false) (sym (add-one i))
+          (no-reading-here many down down-most down-later hasReading′ (suc i) (omega arith) l q)
 
       old-low : marginOf (old i) ≤ 16 * n * atOrAbove many down (suc i)
       old-low =
-          subst (λ (k : ℕ). Quiet many down heard k → marginOf (old i) ≤ 16 * n * atOrAbove many down k) (add-one i)
-          (before i l) (quiet-before many down heard heard′ (suc i) heard-on q)
+          subst (λ (k : ℕ). NoReading many down hasReading k → marginOf (old i) ≤ 16 * n * atOrAbove many down k) (add-one i)
+          (before i l) (no-reading-before many down hasReading hasReading′ (suc i) readings-stay q)
 
       fewer : aboveBy (suc i) i + 1 ≤ atOrAbove many down (suc i)
       fewer =
@@ -193,14 +191,14 @@ module _
       go :
           (c : ℕ)
           → atOrAbove many down (suc i) ≡ c
-          → marginOf (routed (weightOf t i) (t .element i .noise .0) (inflowOf (t .element i .kind) (own i) (aboveOf t own o old i)) (old i)) ≤ 16 * suc n * c
+          → marginOf (routed (weightOf t i) (t .element i .«system_noise» .0) (inflowOf (t .element i .kind) (own i) (aboveOf t own o old i)) (old i)) ≤ 16 * suc n * c
       go zero e = absurd (omega (arith, fewer))
       go (suc d) e =
           move-limit (weightOf t i) n d _ (old i) (weight-most (t .step) (t .element i .lag)) few
           (omega (arith, above-most many down (suc i), b .elementsMost)) (inflow-fits i l) (old-fits i l)
           (inflow-margin (t .element i .kind) (16 * suc n * d) (own i) _ (own-margin i l) (gathered-low d e))
           (subst (λ (c : ℕ). marginOf (old i) ≤ 16 * n * c) e old-low)
-          (t .element i .noise .0)
+          (t .element i .«system_noise» .0)
 
   all-low : (m : ℕ) → m ≤ many → (j : ℕ) → j < m → Low j
   all-low zero l j h = absurd (omega arith)
@@ -212,8 +210,8 @@ module _
   pub limit-step :
       (i : ℕ)
       → i < t .elements
-      → Quiet (t .elements) (networkDown t) heard′ (i + 1)
+      → NoReading (t .elements) (networkDown t) hasReading′ (i + 1)
       → newFigures t own o old i .«discharge_margin» .0 ≤ 16 * suc n * atOrAbove (t .elements) (networkDown t) (i + 1)
   limit-step i l =
-      subst (λ (k : ℕ). quiet k → marginOf (newFigures t own o old i) ≤ 16 * suc n * atOrAbove many down k)
+      subst (λ (k : ℕ). WithoutReading k → marginOf (newFigures t own o old i) ≤ 16 * suc n * atOrAbove many down k)
       (sym (add-one i)) (all-low many (omega arith) i l)

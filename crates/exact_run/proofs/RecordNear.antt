@@ -1,4 +1,4 @@
--- What an accepted record tells an element follows what it tells it in fractions.
+-- What an accepted record brings an element follows what it brings it in fractions.
 use Prim.{Unit}
 use Prim.Native.Nat.{ℕ, zero, suc, _+_, _≤_, _<_}
 use mathlib.Core.Bool.{Bool, true, false, cond}
@@ -23,10 +23,10 @@ use Rattle.record.specs.declared.Observation.{Observation}
 use Rattle.record.specs.declared.Observation.the-variants.{Nothing}
 use Rattle.record.specs.declared.Reading.{Reading}
 use Rattle.record.specs.declared.Reading.the-variants.{At, Gap}
-use Rattle.record.specs.Records.{basinCount, piecesOf, readingAt, rateAnswer, observationOf, told, observationAt, atElement, inputRain, inputObservation, inputAt}
+use Rattle.record.specs.Records.{basinCount, piecesOf, readingAt, rateAnswer, observationOf, acceptedObservation, observationAt, atElement, inputRain, inputObservation, inputAt}
 use Rattle.record.specs.Rules.{isAccepted, lengthFits, versionFits, rainFits, stageFits, readingFits, recordRules}
-use Rattle.network.specs.Step.{stepOwn, observationIn}
-use Rattle.exact_run.specs.ExactStep.{ExactObservation, nothing, exactTold, exactObserved, exactObservationIn, exactOwn}
+use Rattle.network.specs.Step.{stepOwn, observedIn}
+use Rattle.exact_run.specs.ExactStep.{ExactObservation, nothing, exactReading, exactObserved, exactObservationIn, exactOwn}
 use Rattle.exact_run.specs.Following.{Observes, no-reading, reading}
 
 -- one gauge whose reading rule 14 accepts
@@ -35,15 +35,15 @@ module _ (n : ℕ) (gauge : Gauge) (b : GaugeBounds n gauge) where
       (h : ℕ) (z : Answer Discharge)
       → rated h (piecesOf (gauge .curve)) ≡ z
       → isAccepted (rateAnswer (gauge .noise) z) ≡ true
-      → Observes (told (rateAnswer (gauge .noise) z)) (exactTold (gauge .noise .0) (exactRated h (piecesOf (gauge .curve))))
-  unfolding isAccepted rateAnswer told exactTold
+      → Observes (acceptedObservation (rateAnswer (gauge .noise) z)) (exactReading (gauge .noise .0) (exactRated h (piecesOf (gauge .curve))))
+  unfolding isAccepted rateAnswer acceptedObservation exactReading
   rated-near h (accepted z) e ok =
       let r = rating-near h (piecesOf (gauge .curve)) e in rw (r .same) (reading (b .noiseLeast) (r .near))
   rated-near h (refused k) e ok = let z : _≡_ {A = ℕ} 0 1 = cc in absurd (omega arith)
 
   observed-near :
-      (r : Reading) → isAccepted (observationOf gauge r) ≡ true → Observes (told (observationOf gauge r)) (exactObserved gauge r)
-  unfolding observationOf exactObserved told
+      (r : Reading) → isAccepted (observationOf gauge r) ≡ true → Observes (acceptedObservation (observationOf gauge r)) (exactObserved gauge r)
+  unfolding observationOf exactObserved acceptedObservation
   observed-near Gap ok = no-reading
   observed-near (At h) ok = rated-near (h .0) (rated (h .0) (piecesOf (gauge .curve))) refl ok
 
@@ -73,8 +73,8 @@ module _ (t : TableValues) (bytes : List ℕ) (b : TableBounds t) (kept : record
       go false x y = y
 
   -- the observation and the own inflow of element i
-  pub observation-near : (i : ℕ) → Observes (observationIn (inputAt t bytes) i) (exactObservationIn t bytes i)
-  unfolding observationIn inputAt inputObservation exactObservationIn
+  pub observation-near : (i : ℕ) → Observes (observedIn (inputAt t bytes) i) (exactObservationIn t bytes i)
+  unfolding observedIn inputAt inputObservation exactObservationIn
   observation-near i = at-element i (t .gauges) (omega arith)
 
   pub own-near : (i : ℕ) → Follows (stepOwn t (inputAt t bytes) i) (exactOwn t bytes i)

@@ -15,7 +15,7 @@ pub record ExactState : Type 0 where
 unfoldable pub exactForecastOwn : TableValues → ExactState → ℕ → ℕ → ExactFigures
 exactForecastOwn t x lead i =
     let c : ℕ = rainCount (x .steps) in
-    exactForecastInflow (rainSum (x .rains i) c) c (t .element i .area) (t .element i .runoff) lead (t .element i .rain .0)
+    exactForecastInflow (rainSum (x .rains i) c) c (t .element i .area) (t .element i .runoff) lead (t .element i .«rain_noise» .0)
 
 unfoldable pub exactNoObservation : ℕ → ExactObservation
 exactNoObservation i = nothing

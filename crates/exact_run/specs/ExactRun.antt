@@ -14,7 +14,7 @@ exactStarted t =
     record {
       steps = 0;
       rains = λ i. noRains;
-      figures = λ i. record { discharge = whole (t .element i .discharge .0); variance = whole (t .element i .variance .0) };
+      figures = λ i. record { discharge = whole (t .element i .«first_discharge» .0); variance = whole (t .element i .«first_variance» .0) };
     }
 
 unfoldable pub exactStepped : TableValues → List ℕ → ExactState → ExactState

@@ -1,4 +1,4 @@
--- What the theorem asks of an observation and its unrounded one.
+-- Only serves proofs: what they ask of an observation and its unrounded one.
 use Prim.Native.Nat.{_≤_}
 use Rattle.units.specs.declared.Discharge.{Discharge}
 use Rattle.units.specs.declared.Variance.{Variance}

@@ -25,7 +25,6 @@ counted such (suc n) = counted such n + cond (such (suc n)) 1 0
 unfoldable pub atOrAbove : ℕ → (ℕ → ℕ) → ℕ → ℕ
 atOrAbove n down i = counted (leadsTo down i n) n
 
--- "A reading has come in at an element ..": heard tells so of each number. Quiet is number i where no reading has come in at
--- or above it
-pub record Quiet (n : ℕ) (down : ℕ → ℕ) (heard : ℕ → Bool) (i : ℕ) : Type 0 where
-  pub silent : (k : ℕ) → 1 ≤ k → k ≤ n → leadsTo down i n k ≡ true → heard k ≡ false
+-- "A reading has come in at an element ..": hasReading says of each number whether one has. At or above number i none has
+pub record NoReading (n : ℕ) (down : ℕ → ℕ) (hasReading : ℕ → Bool) (i : ℕ) : Type 0 where
+  pub none : (k : ℕ) → 1 ≤ k → k ≤ n → leadsTo down i n k ≡ true → hasReading k ≡ false

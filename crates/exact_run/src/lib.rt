@@ -1,1 +1,1 @@
-// Definitions and theorems only: the step of the whole network in fractions.
+// The run in fractions of a whole network, as definitions, and the theorems that the cabinet stays within its margins of it.

@@ -2,7 +2,7 @@
 use Prim.Native.Nat.{ℕ, zero, suc, _+_, _≤_, _<_}
 use mathlib.Core.Bool.{Bool, true, false, cond, _&&_, _||_}
 use mathlib.Core.Logic.{_⊎_, inl, inr, ⊎-elim}
-use mathlib.Core.Path.{_≡_, refl}
+use mathlib.Core.Path.{_≡_, refl, sym, _∙_}
 use borrow.Author.Tests.{leb-true, le-leb}
 use native.Mathlib.Nat.{eq-or-lt-of-le}
 use native.Mathlib.Numerals.{add-one}
@@ -67,6 +67,14 @@ module _ (test : ℕ → Bool) where
   unfolding allBelow
   all-below zero h = refl
   all-below (suc n) h = rw (all-below n (λ k l. h k (omega arith)), h n (omega arith))
+
+  -- what fails of one fails of all
+  pub all-fails : (n k : ℕ) → k < n → test k ≡ false → allBelow test n ≡ false
+  all-fails n k l h = go (allBelow test n) refl
+    where
+      go : (all : Bool) → allBelow test n ≡ all → all ≡ false
+      go true e = sym (all-at n k l e) ∙ h
+      go false e = refl
 
   -- a loop over 0, .., n - 1 that joins the tests: where it begins, and one turn more
   pub all-none : true ≡ allBelow test 0

@@ -1,3 +1,4 @@
+// A test that a number is in a range.
 ghost use mathlib.Core.Path.{_≡_};
 ghost use Rattle.fields.specs.Ranges.{inRange};
 

@@ -1,3 +1,4 @@
+// The digits of a figure, at most ten of them, in groups of four.
 ghost use mathlib.Core.List.{[], _∷_, _++_};
 ghost use mathlib.Core.Path.{_≡_};
 ghost use Prim.Native.Nat.{_+_, _≤_, _<_};
@@ -5,7 +6,6 @@ ghost use lib.ListN.{length};
 ghost use Rattle.text.specs.Decimal.{decimal};
 ghost use Rattle.text.specs.Pairs.{pairsBelow};
 ghost use Rattle.text.specs.Places.{Put};
-ghost use Rattle.figure_text.specs.Groups.{firstGroup};
 use text::put_four;
 use text::put_pair;
 
@@ -32,39 +32,35 @@ fn put_short(out: &mut [u8], at: usize, v: u32, pairs: &[u16]) -> usize
     at + 4
 }
 
-// The first of the groups of four digits of a number of at most ten.
-fn first_group(x: u32) -> u32
-    ensures { λ r. ⌜ (r ≡ firstGroup x) × (r < 10000) ⌝ }
+// The digits of a number of at most eight, put at a place; the place after them.
+fn put_upper(out: &mut [u8], at: usize, v: u32, pairs: &[u16]) -> usize
+    requires { ⌜ (v < 100000000) × ((at + 8 ≤ length (now out)) × (now pairs ≡ pairsBelow 100)) ⌝ }
+    ensures { λ r. ⌜ Put (now (out .entry)) at (decimal v) (now (out .exit)) r × (r ≤ at + 8) ⌝ }
 {
-    if x < 10_000 {
-        return x;
+    if v < 10_000 {
+        return put_short(&mut *out, at, v, pairs);
     }
-    if x < 100_000_000 {
-        return x / 10_000;
-    }
-    x / 100_000_000
+    let first = v / 10_000;
+    let end = put_short(&mut *out, at, first, pairs);
+    put_four(&mut *out, end, v - 10_000 * first, pairs);
+    end + 4
 }
 
-// The digits of a number of at most ten, put at a place in groups of four; the place after them.
+// The digits of a number of at most ten, put at a place; the place after them. A short number, as most margins are, goes the shortest way.
 fn put_decimal(out: &mut [u8], at: usize, x: u32, pairs: &[u16]) -> usize
     requires { ⌜ (at + 12 ≤ length (now out)) × (now pairs ≡ pairsBelow 100) ⌝ }
     ensures { λ r. ⌜ Put (now (out .entry)) at (decimal x) (now (out .exit)) r ⌝ }
 {
-    let first = first_group(x);
-    let mut end = put_short(&mut *out, at, first, pairs);
-    if 100_000_000 <= x {
-        put_four(&mut *out, end, x / 10_000 % 10_000, pairs);
-        end += 4;
+    if x < 10_000 {
+        return put_short(&mut *out, at, x, pairs);
     }
-    if 10_000 <= x {
-        put_four(&mut *out, end, x % 10_000, pairs);
-        end += 4;
-    }
-    end
+    let upper = x / 10_000;
+    let end = put_upper(&mut *out, at, upper, pairs);
+    put_four(&mut *out, end, x - 10_000 * upper, pairs);
+    end + 4
 }
 
-// As text::put_number, and faster, for numbers of at most ten digits: the figures of each line. One place calls it, so that it is
-// compiled into that loop, which then has no call.
+// As text::put_number, and faster, for numbers of at most ten digits: the figures of each line.
 pub fn put_figure(out: &mut [u8], at: usize, x: u32, after: u8, pairs: &[u16]) -> usize
     requires { ⌜ (at + 21 ≤ length (now out)) × (now pairs ≡ pairsBelow 100) ⌝ }
     ensures { λ r. ⌜ Put (now (out .entry)) at (decimal x ++ after ∷ []) (now (out .exit)) r × (r ≤ at + 21) ⌝ }

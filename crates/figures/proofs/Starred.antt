@@ -6,15 +6,16 @@ use Rattle.rating.specs.Rating.{pieceFor, depth, dischargeAt, onPiece, rated}
 use Rattle.method.specs.Correction.{gain, gainMargin, correctedDischarge, correctedVariance, corrected}
 use Rattle.fields.specs.Ranges.{allBelow}
 use Rattle.elements.specs.Elements.{elementAt}
+use Rattle.elements.specs.Kinds.{byKind}
 use Rattle.elements.specs.Rules.{basinFits, reachFits, kindFits, elementFits, downFits}
 use Rattle.table.specs.Tables.{tableOf}
 use Rattle.table.specs.Rules.{lengthFits, versionFits, countsFit, sizeFits, tableRules}
-use Rattle.engine.specs.Entries.{startAnswer}
+use Rattle.entries.specs.Entries.{startAnswer}
 use Rattle.figures.specs.Starred.{Starred}
 use Rattle.figures.proofs.Output.{whole-output}
 
 pub starred : Starred
-unfolding turned weight weightedMean gapOf blended pieceFor depth dischargeAt onPiece rated gain gainMargin correctedDischarge correctedVariance corrected allBelow elementAt basinFits reachFits kindFits elementFits downFits tableOf lengthFits versionFits countsFit sizeFits tableRules startAnswer
+unfolding turned weight weightedMean gapOf blended pieceFor depth dischargeAt onPiece rated gain gainMargin correctedDischarge correctedVariance corrected allBelow elementAt byKind basinFits reachFits kindFits elementFits downFits tableOf lengthFits versionFits countsFit sizeFits tableRules startAnswer
 starred =
     record {
       weight-of-an-hour = refl;

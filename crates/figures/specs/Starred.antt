@@ -13,8 +13,8 @@ use Rattle.rating.specs.declared.Piece.{Piece}
 use Rattle.rating.specs.Rating.{pieceFor, rated}
 use Rattle.method.specs.Figures.{figures}
 use Rattle.method.specs.Correction.{gain, corrected}
-use Rattle.state.specs.declared.State.{State}
-use Rattle.engine.specs.Entries.{startAnswer}
+use Rattle.state.specs.States.{State}
+use Rattle.entries.specs.Entries.{startAnswer}
 use Rattle.report.specs.Program.{program}
 
 -- a piece of a rating curve: top, a and b

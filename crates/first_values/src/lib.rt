@@ -1,58 +1,63 @@
 // The state that a start leaves.
 ghost use mathlib.Core.Path.{_≡_};
+ghost use Prim.Native.Nat.{_<_};
+ghost use Rattle.sizes.specs.Sizes.{mostElements};
 ghost use Rattle.table.specs.Bounds.{AcceptedTable};
 ghost use Rattle.table.specs.InUse.{tableIn};
-ghost use Rattle.state.specs.Start.{firstRains, firstPlace, started};
+ghost use Rattle.state.specs.Start.{firstFigures, firstPut, started};
 use elements::Element;
 use elements::element_at;
 use method::Figures;
-use state::ElementState;
+use sizes::STATE_NUMBERS;
 use state::Rains;
-use state::State;
+use state::put_figures;
+use state::put_rains;
 use units::Discharge;
 use units::Variance;
 
-fn first_rains(kind: u64, before: Rains) -> Rains
-    ensures { λ r. ⌜ r ≡ firstRains kind before ⌝ }
+// The first values, margins 0.
+fn first_figures(e: Element) -> Figures
+    ensures { λ r. ⌜ r ≡ firstFigures e ⌝ }
 {
+    let discharge = e.first_discharge;
+    let variance = e.first_variance;
+    Figures {
+        discharge,
+        discharge_margin: Discharge(0),
+        variance,
+        variance_margin: Variance(0),
+    }
+}
+
+// The place of element i at the start: its first values, and a basin's rains 0.
+fn put_first(state: &mut [u64; STATE_NUMBERS], i: usize, e: Element)
+    requires { ⌜ i < mostElements ⌝ }
+    ensures { λ _. ⌜ now (state .exit) ≡ firstPut e i (now (state .entry)) ⌝ }
+{
+    let kind = e.kind;
+    put_figures(&mut *state, i, first_figures(e));
     match kind {
-        1 => Rains {
-            first: 0,
-            second: 0,
-            third: 0,
-        },
-        _ => before,
+        elements::BASIN => {
+            let dry = Rains {
+                first: 0,
+                second: 0,
+                third: 0,
+            };
+            put_rains(&mut *state, i, dry);
+        }
+        elements::REACH => {}
+        _ => {}
     }
 }
 
-// An element's place at the start: its first values, margins 0, a basin's rains 0.
-fn first_place(e: Element, before: ElementState) -> ElementState
-    ensures { λ r. ⌜ r ≡ firstPlace e before ⌝ }
-{
-    let discharge = e.discharge;
-    let variance = e.variance;
-    let rains = first_rains(e.kind, before.rains);
-    ElementState {
-        figures: Figures {
-            discharge,
-            discharge_margin: Discharge(0),
-            variance,
-            variance_margin: Variance(0),
-        },
-        rains,
-    }
-}
-
-// The state that a start on the bytes of an accepted table of n elements leaves.
-pub fn start_on(table: &[u8], n: usize, state: State) -> State
+// A start on the bytes of an accepted table of n elements.
+pub fn start_on(table: &[u8], n: usize, state: &mut [u64; STATE_NUMBERS])
     requires { ⌜ AcceptedTable (now table) × (n ≡ tableIn (now table) .elements) ⌝ }
-    ensures { λ r. ⌜ r ≡ started (tableIn (now (table .entry))) state ⌝ }
+    ensures { λ _. ⌜ now (state .exit) ≡ started (tableIn (now (table .entry))) (now (state .entry)) ⌝ }
 {
-    let mut next = state;
     for i in 0..n {
-        next.element[i] = first_place(element_at(table, i), next.element[i]);
+        put_first(&mut *state, i, element_at(table, i));
     }
-    next.elements = n;
-    next.steps = 0;
-    next
+    state[0] = n as u64;
+    state[1] = 0;
 }

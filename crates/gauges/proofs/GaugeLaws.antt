@@ -1,8 +1,10 @@
 -- Laws of the gauges: what rule 7 asks and what it lets callers rely on.
-use Prim.Native.Nat.{ℕ, zero, suc, _-_, _<_}
+use Prim.Native.Nat.{ℕ, zero, suc, _+_, _-_, _*_, _<_}
 use mathlib.Core.Bool.{true}
-use mathlib.Core.Path.{_≡_}
+use mathlib.Core.List.{List}
+use mathlib.Core.Path.{_≡_, refl, ap}
 use borrow.Author.Tests.{ltb-true, leb-true, lt-ltb}
+use native.Mathlib.Numerals.{add-one}
 use native.Mathlib.Omega.{arith}
 use lib.Dec.{ltb, leb, eqb}
 use Rattle.units.specs.Units.{C}
@@ -14,8 +16,33 @@ use Rattle.rating.specs.declared.Curve.{Curve}
 use Rattle.fields.specs.Ranges.{inRange, allBelow}
 use Rattle.fields.proofs.RangeLaws.{all-three, all-four, range-bounds, all-at}
 use Rattle.gauges.specs.declared.Gauge.{Gauge}
+use Rattle.gauges.specs.Gauges.{pieceAt, gaugeAt}
+use Rattle.gauges.specs.Places.{curveAt}
 use Rattle.gauges.specs.Rules.{offsetFits, pieceOf, topBefore, pieceInUseFits, pieceFits, curveFits, elementBefore, gaugeFits}
 use Rattle.gauges.specs.Bounds.{GaugeBounds}
+
+-- piece j of a curve, where it stands
+pub piece-stands : (table : List ℕ) (at j : ℕ) → j < 5 → pieceAt table (at + 6 + 8 * j) ≡ pieceOf (curveAt table at) j
+unfolding pieceOf curveAt
+piece-stands table at zero l = ap (pieceAt table) (omega arith)
+piece-stands table at (suc zero) l = ap (pieceAt table) (omega arith)
+piece-stands table at (suc (suc zero)) l = ap (pieceAt table) (omega arith)
+piece-stands table at (suc (suc (suc zero))) l = ap (pieceAt table) (omega arith)
+piece-stands table at (suc (suc (suc (suc zero)))) l = ap (pieceAt table) (omega arith)
+piece-stands table at (suc (suc (suc (suc (suc j))))) l = absurd (omega arith)
+
+pub curve-stands : (table : List ℕ) (n g : ℕ) → curveAt table (26 * n + 46 * g + 10) ≡ gaugeAt table n g .curve
+unfolding curveAt gaugeAt
+curve-stands table n g = refl
+
+-- the top before the piece after piece j
+pub top-next : (curve : Curve) (j : ℕ) → pieceOf curve j .top .0 ≡ topBefore curve (j + 1)
+unfolding topBefore
+top-next curve j = rw add-one
+
+pub element-next : (gauge : ℕ → Gauge) (g : ℕ) → gauge g .element ≡ elementBefore gauge (g + 1)
+unfolding elementBefore
+element-next gauge g = rw add-one
 
 -- what stands before a piece or a gauge that is not the first
 pub top-before : (curve : Curve) (j : ℕ) → 0 < j → topBefore curve j ≡ pieceOf curve (j - 1) .top .0
@@ -49,6 +76,17 @@ curve-bounds curve h =
       count = most;
       pieces = λ i used. piece-bounds _ _ (rw (lt-ltb _ _ used) at (all-at (pieceFits curve) 5 i (omega arith) (k .1 .0)));
     }
+
+-- gauges rise strictly by element
+pub gauge-rises : (n : ℕ) (gauge : ℕ → Gauge) (g : ℕ) → gaugeFits n gauge (g + 1) ≡ true → gauge g .element < gauge (g + 1) .element
+unfolding gaugeFits elementBefore
+gauge-rises n gauge g h =
+    let next = gauge (g + 1) in
+    let later = ltb (elementBefore gauge (g + 1)) (next .element) in
+    let noise = inRange (next .noise .0) 1 C in
+    let k = all-four later (leb (next .element) n) noise (curveFits (next .curve)) h in
+    let e : elementBefore gauge (g + 1) ≡ gauge g .element = rw add-one in
+    omega (arith, ltb-true (elementBefore gauge (g + 1)) (next .element) (k .0))
 
 pub gauge-bounds : (n : ℕ) (gauge : ℕ → Gauge) (g : ℕ) → gaugeFits n gauge g ≡ true → GaugeBounds n (gauge g)
 unfolding gaugeFits

@@ -1,3 +1,4 @@
 pub mod Gauges
+pub mod Places
 pub mod Rules
 pub mod Bounds

@@ -2,6 +2,7 @@
 ghost use mathlib.Core.Path.{_≡_};
 ghost use Prim.Native.Nat.{_+_, _*_, _≤_, _<_};
 ghost use lib.ListN.{length};
+ghost use Rattle.sizes.specs.Sizes.{mostElements, mostGauges};
 ghost use Rattle.gauges.specs.Gauges.{offsetOf, pieceAt, gaugeAt};
 use fields::bytes::whole16;
 use fields::bytes::whole32;
@@ -12,7 +13,7 @@ use rating::Piece;
 use units::Stage;
 use units::Variance;
 
-// A gauge of the table: its curve, its noise R and the element it stands at.
+// A gauge of the table: its curve, its noise R and the element it stands at. The code reads each where it stands in the table.
 pub struct Gauge {
     pub curve: Curve,
     pub noise: Variance,
@@ -31,7 +32,7 @@ fn offset_of(field: u64) -> Offset
 }
 
 // The piece whose eight bytes start at a place.
-fn piece_at(table: &[u8], at: usize) -> Piece
+pub fn piece_at(table: &[u8], at: usize) -> Piece
     requires { ⌜ (at ≤ 100000) × (at + 8 ≤ length (now table)) ⌝ }
     ensures { λ r. ⌜ r ≡ pieceAt (now (table .entry)) at ⌝ }
 {
@@ -42,32 +43,9 @@ fn piece_at(table: &[u8], at: usize) -> Piece
     }
 }
 
-// Gauge g of a table with n elements, counted from 0, all of whose bytes are there.
-pub fn gauge_at(table: &[u8], n: usize, g: usize) -> Gauge
-    requires { ⌜ ((n ≤ 64) × (g ≤ 64)) × (26 * n + 46 * g + 56 ≤ length (now table)) ⌝ }
-    ensures { λ r. ⌜ r ≡ gaugeAt (now (table .entry)) n g ⌝ }
-{
-    let at = 26 * n + 46 * g + 10;
-    let pieces = [
-        piece_at(table, at + 6),
-        piece_at(table, at + 14),
-        piece_at(table, at + 22),
-        piece_at(table, at + 30),
-        piece_at(table, at + 38),
-    ];
-    Gauge {
-        element: wide(table[at]) as usize,
-        noise: Variance(whole32(table, at + 2)),
-        curve: Curve {
-            count: wide(table[at + 1]) as usize,
-            pieces,
-        },
-    }
-}
-
 // The number of the element that gauge g stands at.
 pub fn element_of(table: &[u8], n: usize, g: usize) -> usize
-    requires { ⌜ ((n ≤ 64) × (g ≤ 64)) × (26 * n + 46 * g + 56 ≤ length (now table)) ⌝ }
+    requires { ⌜ ((n ≤ mostElements) × (g ≤ mostGauges)) × (26 * n + 46 * g + 56 ≤ length (now table)) ⌝ }
     ensures { λ r. ⌜ r ≡ gaugeAt (now (table .entry)) n g .element ⌝ }
 {
     wide(table[26 * n + 46 * g + 10]) as usize

@@ -2,13 +2,13 @@
 ghost use mathlib.Core.Path.{_≡_};
 ghost use Prim.Native.Nat.{_≤_};
 ghost use Rattle.method.specs.Figures.{figuresAnswer, AnsweredFiguresFit};
-ghost use Rattle.method.specs.Inflow.{meanRainInflow, judgedInflow};
+ghost use Rattle.method.specs.Inflow.{meanRainInflow, inflowAnswer};
 ghost use Rattle.inflow.specs.Basin.{basinInflow};
 use method::Figures;
 use method::FiguresAnswer;
 use weighting::Estimate;
 
-// What the mean of the last rains brings: 5 × sum × area × f / (18 × count), each divisor a constant.
+// The inflow from the mean of the last rains: 5 × sum × area × f / (18 × count), each divisor a constant.
 pub fn mean_rain_inflow(sum: u64, count: u64, area: u64, runoff: u64) -> u64
     requires { ⌜ (sum ≤ 9000) × ((count ≤ 3) × ((area ≤ 400000) × (runoff ≤ 1000))) ⌝ }
     ensures { λ r. ⌜ r ≡ meanRainInflow sum count area runoff ⌝ }
@@ -22,14 +22,14 @@ pub fn mean_rain_inflow(sum: u64, count: u64, area: u64, runoff: u64) -> u64
     }
 }
 
-// The inflow of a basin at a step (lead 0) or at a lead: what its rain brings, and its rain noise.
-pub fn basin_inflow(brought: u64, lead: u64, noise: u64) -> FiguresAnswer
+// The figures of a basin's inflow at a step (lead 0) or at a lead, by its rain inflow and its rain noise.
+pub fn basin_inflow(rain_inflow: u64, lead: u64, noise: u64) -> FiguresAnswer
     requires { ⌜ (lead ≤ 12) × (noise ≤ 100000000) ⌝ }
-    ensures { λ r. ⌜ (figuresAnswer r ≡ judgedInflow (basinInflow brought lead noise)) × AnsweredFiguresFit r ⌝ }
+    ensures { λ r. ⌜ (figuresAnswer r ≡ inflowAnswer (basinInflow «rain_inflow» lead noise)) × AnsweredFiguresFit r ⌝ }
 {
     Figures::new(
         Estimate {
-            value: brought,
+            value: rain_inflow,
             margin: 1,
         },
         Estimate {

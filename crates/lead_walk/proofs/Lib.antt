@@ -1,3 +1,2 @@
-pub mod UnderLaws
-pub mod LedLaws
-pub mod WorkedLaws
+pub mod LeadsLaws
+pub mod NetworkLaws

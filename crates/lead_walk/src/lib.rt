@@ -1,43 +1,38 @@
 // One element through the leads of a forecast, or through a step, which is one lead, of number 0.
-ghost use Rattle.lead_walk.specs.Worked.{LeadsReady, ElementLed};
-use answer_space::put_figures;
+ghost use Rattle.lead_walk.specs.Worked.{LeadsReady, ElementWorked};
 use method::Figures;
-use one_lead::Course;
+use method::FiguresAnswer;
+use one_lead::ElementInput;
 use one_lead::Lead;
 use one_lead::work_lead;
 use refusal::Refusal;
-use table::Verdict;
+use refusal::Verdict;
 
-// All leads of element i, from its figures in the state: 16 where a number passes the ceiling.
+// All leads of an element, from its figures before the first: its own places and those of the element below begin at `here` and `below`.
+// 16 where a number passes the ceiling.
 pub fn work_element(
-    course: Course,
+    input: ElementInput,
     first: Figures,
-    i: usize,
+    here: usize,
+    below: usize,
     leads: usize,
-    answer: &mut [u64],
-    sums: &mut [u64],
+    space: &mut [u64],
 ) -> Verdict
-    requires { ⌜ LeadsReady course first i leads (now answer) (now sums) ⌝ }
-    ensures { λ r. ⌜ ElementLed r course first i leads (now (answer .entry)) (now (answer .exit)) (now (sums .entry)) (now (sums .exit)) ⌝ }
+    requires { ⌜ LeadsReady input first here below leads (now space) ⌝ }
+    ensures { λ r. ⌜ ElementWorked r input first here below leads (now (space .entry)) (now (space .exit)) ⌝ }
 {
-    let element = course.element;
-    let w = leads + 1;
-    let own = i * w;
-    let above = own + w;
-    let below = element.down * w;
-    let first_number = course.lead;
-    put_figures(&mut *answer, own, first);
+    let first_number = input.first_lead;
+    let mut old = first;
     for k in 0..leads {
         let lead = Lead {
             number: first_number + k as u64,
-            old: own + k,
-            new: own + k + 1,
-            above: above + k,
+            here: here + k,
             below: below + k,
         };
-        let Verdict::Accepted = work_lead(course, lead, &mut *answer, &mut *sums) else {
+        let FiguresAnswer::Accepted(new) = work_lead(input, lead, old, &mut *space) else {
             return Verdict::Refused(Refusal::AboveCeiling);
         };
+        old = new;
     }
     Verdict::Accepted
 }

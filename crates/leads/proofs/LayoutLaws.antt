@@ -1,20 +1,30 @@
--- An answer that holds all leads is the layout of the forecast's figures.
+-- A part of the space that holds all leads is the layout of the forecast's figures.
 use Prim.Native.Nat.{ℕ, zero, suc, _+_, _*_, _≤_, _<_}
 use mathlib.Core.List.{List, [], _∷_, _++_, append-assoc, append-nil}
-use mathlib.Core.Path.{_≡_, refl, sym, ap, _∙_}
+use mathlib.Core.Path.{_≡_, sym, ap, _∙_}
 use native.Mathlib.Nat.{mul-le-mul-right, suc-mul, zero-mul, add-zero}
 use native.Mathlib.Omega.{arith}
-use lib.ListN.{length, getD, take}
-use lib.Seq.{take-suc}
+use lib.ListN.{length, getD, take, drop}
+use lib.Seq.{take-suc, getD-drop}
 use Rattle.method.specs.declared.Figures.{Figures}
-use Rattle.leads.specs.Answer.{listed, byElementAndLead}
-use Rattle.leads.specs.Lent.{layout}
-use Rattle.answer_space.specs.Places.{figuresAt, LeadsHeld}
+use Rattle.network.specs.Answer.{listed, byElementAndLead}
+use Rattle.network.specs.Lent.{layout}
+use Rattle.network.proofs.LayoutLaws.{layout-append}
+use Rattle.answer_space.specs.Places.{figuresAt}
 
-pub layout-append : (fs gs : List Figures) → layout (fs ++ gs) ≡ layout fs ++ layout gs
-unfolding layout
-layout-append [] gs = refl
-layout-append (f ∷ fs) gs = rw (layout-append fs gs)
+-- the places after the first w
+pub figures-after : (space : List ℕ) (w p : ℕ) → figuresAt (drop (4 * w) space) p ≡ figuresAt space (w + p)
+unfolding figuresAt
+figures-after space w p =
+    rw (
+      number (4 * p) (4 * (w + p)) (omega arith),
+      number (4 * p + 1) (4 * (w + p) + 1) (omega arith),
+      number (4 * p + 2) (4 * (w + p) + 2) (omega arith),
+      number (4 * p + 3) (4 * (w + p) + 3) (omega arith),
+    )
+  where
+    number : (j k : ℕ) → 4 * w + j ≡ k → getD (drop (4 * w) space) j 0 ≡ getD space k 0
+    number j k e = getD-drop (4 * w) space j 0 ∙ ap (λ (n : ℕ). getD space n 0) e
 
 -- four numbers more
 take-four :
@@ -52,10 +62,10 @@ take-four answer p room =
             ∙ (take-suc answer (4 * p + 1) 0 (omega arith)
             ∙ (ap (λ (l : List ℕ). l ++ getD answer (4 * p + 1) 0 ∷ []) one ∙ append-assoc (take (4 * p) answer) _ _))
 
-module _ (answer : List ℕ) (figures : ℕ → ℕ → Figures) (n w : ℕ) (held : LeadsHeld answer figures n w w) (room : 4 * (n * w) ≤ length answer) where
-  abbrev given : ℕ → ℕ → Figures
-  given i lead = figures lead i
-
+module _
+    (answer : List ℕ) (figures : ℕ → ℕ → Figures) (n w : ℕ)
+    (held : (i lead : ℕ) → i < n → lead < w → figuresAt answer (i * w + lead) ≡ figures i lead)
+    (room : 4 * (n * w) ≤ length answer) where
   within : (i lead : ℕ) → i < n → lead < w → 4 * (i * w + lead) + 3 < length answer
   within i lead l m = omega (arith, room, mul-le-mul-right w l, suc-mul i w)
 
@@ -67,24 +77,24 @@ module _ (answer : List ℕ) (figures : ℕ → ℕ → Figures) (n w : ℕ) (he
       (i lead : ℕ)
       → i < n
       → lead ≤ w
-      → take (4 * (i * w)) answer ≡ layout (byElementAndLead given i w)
-      → take (4 * (i * w + lead)) answer ≡ layout (byElementAndLead given i w ++ listed (given i) lead)
+      → take (4 * (i * w)) answer ≡ layout (byElementAndLead figures i w)
+      → take (4 * (i * w + lead)) answer ≡ layout (byElementAndLead figures i w ++ listed (figures i) lead)
   unfolding listed
   leads-laid i zero l m h =
-      ap (λ (k : ℕ). take (4 * k) answer) (add-zero (i * w)) ∙ (h ∙ ap layout (sym (append-nil (byElementAndLead given i w))))
+      ap (λ (k : ℕ). take (4 * k) answer) (add-zero (i * w)) ∙ (h ∙ ap layout (sym (append-nil (byElementAndLead figures i w))))
   leads-laid i (suc lead) l m h =
       ap (λ (k : ℕ). take (4 * k) answer) (more (i * w) lead)
       ∙ (take-four answer (i * w + lead) (within i lead l m)
-      ∙ (ap (λ (f : Figures). take (4 * (i * w + lead)) answer ++ layout (f ∷ [])) (held .at i lead l m)
-      ∙ (ap (λ (r : List ℕ). r ++ layout (given i lead ∷ [])) (leads-laid i lead l (omega arith) h)
-      ∙ (sym (layout-append _ (given i lead ∷ [])) ∙ ap layout (append-assoc (byElementAndLead given i w) _ _)))))
+      ∙ (ap (λ (f : Figures). take (4 * (i * w + lead)) answer ++ layout (f ∷ [])) (held i lead l m)
+      ∙ (ap (λ (r : List ℕ). r ++ layout (figures i lead ∷ [])) (leads-laid i lead l (omega arith) h)
+      ∙ (sym (layout-append _ (figures i lead ∷ [])) ∙ ap layout (append-assoc (byElementAndLead figures i w) _ _)))))
 
-  elements-laid : (i : ℕ) → i ≤ n → take (4 * (i * w)) answer ≡ layout (byElementAndLead given i w)
+  elements-laid : (i : ℕ) → i ≤ n → take (4 * (i * w)) answer ≡ layout (byElementAndLead figures i w)
   unfolding byElementAndLead layout
   elements-laid zero l = ap (λ (k : ℕ). take (4 * k) answer) (zero-mul w)
   elements-laid (suc i) l =
       ap (λ (k : ℕ). take (4 * k) answer) (suc-mul i w)
       ∙ leads-laid i w l (omega arith) (elements-laid i (omega arith))
 
-  pub answer-laid : take (4 * (n * w)) answer ≡ layout (byElementAndLead given n w)
+  pub answer-laid : take (4 * (n * w)) answer ≡ layout (byElementAndLead figures n w)
   answer-laid = elements-laid n (omega arith)

@@ -1,3 +1,6 @@
+pub mod InputLaws
+pub mod WorkLaws
 pub mod LayoutLaws
-pub mod LeadsLaws
-pub mod ForecastLaws
+pub mod AnswerLaws
+pub mod TurnLaws
+pub mod HeldLaws

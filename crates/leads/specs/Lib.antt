@@ -1,3 +1,2 @@
-pub mod Answer
-pub mod Lent
+pub mod Inputs
 pub mod Held

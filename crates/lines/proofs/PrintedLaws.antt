@@ -2,7 +2,7 @@
 use Prim.Native.Nat.{ℕ, zero, suc, _+_, _*_, _≤_, _<_}
 use mathlib.Core.List.{List, [], _∷_, _++_, append-assoc}
 use mathlib.Core.Path.{_≡_, refl, ap, _∙_}
-use native.Mathlib.Nat.{add-zero, mul-le-mul-right}
+use native.Mathlib.Nat.{mul-le-mul-right}
 use native.Mathlib.Numerals.{add-one}
 use native.Mathlib.Omega.{arith}
 use lib.ListN.{length, getD, List·getD-append}
@@ -13,7 +13,7 @@ use Rattle.text.proofs.LineLaws.{line-then}
 use Rattle.text.proofs.PlacesLaws.{put-then, put-same, put-nothing}
 use Rattle.lines.specs.Ceiling.{FiguresUnderCeiling}
 use Rattle.lines.specs.Printed.{joined, lineFrom, elementLines, answerLines, refusedWord, refusalLine}
-use Rattle.lines.specs.Starts.{byteAfter, figuresFrom, lineAfter, linesAfter}
+use Rattle.lines.specs.Starts.{figuresFrom, lineAfter, linesAfter}
 
 -- the three parts of a refusal's line
 pub refusal-put :
@@ -51,28 +51,20 @@ unfolding joined
 joined-same f g zero h = refl
 joined-same f g (suc n) h = rw (joined-same f g n (λ k l. h k (omega arith)), h n (omega arith))
 
--- a figure, with the byte after it
-abbrev pub figureText : List ℕ → ℕ → ℕ → List ℕ
-figureText numbers from k = decimal (getD numbers (from + k) 0) ++ byteAfter k ∷ []
-
 -- the four figures end a line
-pub figures-line : (numbers : List ℕ) (from : ℕ) → joined (figureText numbers from) 4 ≡ line (figuresFrom numbers from)
-unfolding joined line
-figures-line numbers from = rw add-zero (simp append-assoc)
+pub figures-put :
+    (numbers : List ℕ) (from : ℕ) {l m n o q : List ℕ} {at i j k e : ℕ}
+    → Put l at (decimal (getD numbers from 0) ++ 32 ∷ []) m i
+    → Put m i (decimal (getD numbers (from + 1) 0) ++ 32 ∷ []) n j
+    → Put n j (decimal (getD numbers (from + 2) 0) ++ 32 ∷ []) o k
+    → Put o k (decimal (getD numbers (from + 3) 0) ++ 10 ∷ []) q e
+    → Put l at (line (figuresFrom numbers from)) q e
+unfolding line
+figures-put numbers from a b c d = put-same (simp append-assoc) (put-then a (put-then b (put-then c d)))
 
 -- each of the first figures is under the ceiling, where more of them are
 pub fewer-under : (numbers : List ℕ) (few many : ℕ) → few ≤ many → FiguresUnderCeiling numbers many → FiguresUnderCeiling numbers few
 fewer-under numbers few many h u = record { at = λ k l. u .at k (omega arith) }
-
--- one figure more
-pub figure-more :
-    (numbers : List ℕ) (from k after : ℕ) {l m n : List ℕ} {at i j : ℕ}
-    → after ≡ byteAfter k
-    → Put l at (joined (figureText numbers from) k) m i
-    → Put m i (decimal (getD numbers (from + k) 0) ++ after ∷ []) n j
-    → Put l at (joined (figureText numbers from) (k + 1)) n j
-figure-more numbers from k after e p q =
-    joined-more (figureText numbers from) k p (put-same (ap (λ b. decimal (getD numbers (from + k) 0) ++ b ∷ []) e) q)
 
 -- the start of a line, its lead and its figures
 pub line-put :

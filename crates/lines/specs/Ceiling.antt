@@ -1,4 +1,4 @@
--- Document 01, Numbers for no, 16: no figure that is handed out passes C.
+-- Serves the code: no figure that is handed out passes C (document 01, Numbers for no, 16).
 use Prim.Native.Nat.{ℕ, _≤_, _<_}
 use lib.ListN.{getD}
 use mathlib.Core.List.{List}

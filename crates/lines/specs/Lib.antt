@@ -1,3 +1,4 @@
 pub mod Ceiling
 pub mod Printed
 pub mod Starts
+pub mod Ready

@@ -1,8 +1,6 @@
--- The lines of an element, by how each of them starts: with the step count and the element.
+-- Serves the code: the lines of an element, by how each of them starts: with the step count and the element.
 use Prim.Native.Nat.{ℕ, _+_, _*_}
-use mathlib.Core.Bool.{cond}
 use mathlib.Core.List.{List, [], _∷_, _++_}
-use lib.Dec.{ltb}
 use lib.ListN.{getD}
 use Rattle.text.specs.Lines.{line}
 use Rattle.lines.specs.Printed.{joined}
@@ -10,10 +8,6 @@ use Rattle.lines.specs.Printed.{joined}
 -- "discharge, margin, variance, variance margin": the last four numbers of a line
 abbrev pub figuresFrom : List ℕ → ℕ → List ℕ
 figuresFrom numbers at = getD numbers at 0 ∷ getD numbers (at + 1) 0 ∷ getD numbers (at + 2) 0 ∷ getD numbers (at + 3) 0 ∷ []
-
--- the byte after each of these: "single spaces", and a line feed at the end
-abbrev pub byteAfter : ℕ → ℕ
-byteAfter k = cond (ltb k 3) 32 10
 
 unfoldable pub lineAfter : List ℕ → ℕ → List ℕ → ℕ → List ℕ
 lineAfter start lead numbers at = start ++ line (lead ∷ figuresFrom numbers at)

@@ -1,14 +1,14 @@
+// The lines of a forecast and of a refusal, put into lent space.
 ghost use mathlib.Core.List.{[], _∷_, _++_};
 ghost use mathlib.Core.Path.{_≡_};
-ghost use Prim.Native.Nat.{_+_, _*_, _≤_, _<_};
+ghost use Prim.Native.Nat.{_+_, _*_, _≤_};
 ghost use lib.ListN.{length, take};
 ghost use Rattle.text.specs.Decimal.{decimal};
 ghost use Rattle.text.specs.Lines.{line};
-ghost use Rattle.text.specs.Pairs.{pairsBelow};
 ghost use Rattle.text.specs.Places.{Put};
-ghost use Rattle.lines.specs.Ceiling.{FiguresUnderCeiling};
 ghost use Rattle.lines.specs.Printed.{refusalLine, answerLines};
-ghost use Rattle.lines.specs.Starts.{byteAfter, figuresFrom, lineAfter, linesAfter};
+ghost use Rattle.lines.specs.Ready.{FiguresReady, LineReady, ElementReady, ElementPut, LinesReady};
+ghost use Rattle.lines.specs.Starts.{figuresFrom, lineAfter, linesAfter};
 use figure_text::put_figure;
 use text::digit_pairs;
 use text::put_bytes;
@@ -37,24 +37,16 @@ fn put_start(out: &mut [u8], at: usize, start: &[u8], size: usize) -> usize
     put_bytes(&mut *out, at, &start[..size])
 }
 
-// The byte after the figure k of a line, counted from 0.
-fn byte_after(k: usize) -> u8
-    ensures { λ r. ⌜ r ≡ byteAfter k ⌝ }
-{
-    if k < 3 { b' ' } else { b'\n' }
-}
-
-// The four figures from a place on, which end a line, put at a place; the place after them.
+// The four figures from a place on, which end a line, put at a place; the place after them. Four calls, which are compiled into the
+// loop over the lines.
 fn put_figures(out: &mut [u8], at: usize, numbers: &[u64], from: usize, pairs: &[u16]) -> usize
-    requires { ⌜ (at + 84 ≤ length (now out)) × ((from + 4 ≤ length (now numbers)) × (FiguresUnderCeiling (now numbers) (from + 4) × (now pairs ≡ pairsBelow 100))) ⌝ }
+    requires { ⌜ FiguresReady (now out) at (now numbers) from (now pairs) ⌝ }
     ensures { λ r. ⌜ Put (now (out .entry)) at (line (figuresFrom (now (numbers .entry)) from)) (now (out .exit)) r × (r ≤ at + 84) ⌝ }
 {
-    let mut next = at;
-    for k in 0..4 {
-        let after = byte_after(k);
-        next = put_figure(&mut *out, next, numbers[from + k] as u32, after, pairs);
-    }
-    next
+    let p1 = put_figure(&mut *out, at, numbers[from] as u32, b' ', pairs);
+    let p2 = put_figure(&mut *out, p1, numbers[from + 1] as u32, b' ', pairs);
+    let p3 = put_figure(&mut *out, p2, numbers[from + 2] as u32, b' ', pairs);
+    put_figure(&mut *out, p3, numbers[from + 3] as u32, b'\n', pairs)
 }
 
 // The line at a lead, with the four figures from a place on, put at a place; the place after it.
@@ -68,7 +60,7 @@ fn put_line(
     from: usize,
     pairs: &[u16],
 ) -> usize
-    requires { ⌜ (at + 147 ≤ length (now out)) × ((length (now start) ≡ 32) × ((size ≤ 32) × ((lead < 100) × ((from + 4 ≤ length (now numbers)) × (FiguresUnderCeiling (now numbers) (from + 4) × (now pairs ≡ pairsBelow 100)))))) ⌝ }
+    requires { ⌜ LineReady (now out) at (now start) size lead (now numbers) from (now pairs) ⌝ }
     ensures { λ r. ⌜ Put (now (out .entry)) at (lineAfter (take size (now (start .entry))) lead (now (numbers .entry)) from) (now (out .exit)) r × (r ≤ at + 147) ⌝ }
 {
     let p1 = put_start(&mut *out, at, start, size);
@@ -88,8 +80,8 @@ fn put_element(
     leads: usize,
     pairs: &[u16],
 ) -> usize
-    requires { ⌜ (at + 147 * leads ≤ length (now out)) × ((4 * (i * leads + leads) ≤ length (now numbers)) × ((i < 64) × ((leads ≤ 100) × ((length (now start) ≡ 32) × ((size ≤ 21) × (FiguresUnderCeiling (now numbers) (4 * (i * leads + leads)) × (now pairs ≡ pairsBelow 100))))))) ⌝ }
-    ensures { λ r. ⌜ Put (now (out .entry)) at (linesAfter (take size (now (start .entry)) ++ (decimal (i + 1) ++ 32 ∷ [])) leads (now (numbers .entry)) i) (now (out .exit)) r × ((r ≤ at + 147 * leads) × (take size (now (start .exit)) ≡ take size (now (start .entry)))) ⌝ }
+    requires { ⌜ ElementReady (now out) at (now numbers) (now start) size i leads (now pairs) ⌝ }
+    ensures { λ r. ⌜ ElementPut (now (out .entry)) at (linesAfter (take size (now (start .entry)) ++ (decimal (i + 1) ++ 32 ∷ [])) leads (now (numbers .entry)) i) (now (out .exit)) r leads size (now (start .entry)) (now (start .exit)) ⌝ }
 {
     let whole = put_small(&mut *start, size, i as u32 + 1, b' ', pairs);
     let mut next = at;
@@ -117,7 +109,7 @@ pub fn put_lines(
     elements: usize,
     leads: usize,
 ) -> usize
-    requires { ⌜ (at + 147 * (elements * leads) ≤ length (now out)) × ((4 * (elements * leads) ≤ length (now numbers)) × ((elements ≤ 64) × ((leads ≤ 100) × FiguresUnderCeiling (now numbers) (4 * (elements * leads))))) ⌝ }
+    requires { ⌜ LinesReady (now out) at (now numbers) elements leads ⌝ }
     ensures { λ r. ⌜ Put (now (out .entry)) at (answerLines steps leads (now (numbers .entry)) elements) (now (out .exit)) r × (r ≤ at + 147 * (elements * leads)) ⌝ }
 {
     let pairs = digit_pairs();

@@ -36,5 +36,5 @@ forecastInflow s c area f lead G = figures (estimate (meanRainInflow s c area f)
 unfoldable pub inflowNumbers : Figures → List ℕ
 inflowNumbers i = i .discharge .0 ∷ i .«discharge_margin» .0 ∷ i .variance .0 ∷ i .«variance_margin» .0 ∷ []
 
-unfoldable pub judgedInflow : Figures → Answer Figures
-judgedInflow i = underCeiling (inflowNumbers i) i
+unfoldable pub inflowAnswer : Figures → Answer Figures
+inflowAnswer i = underCeiling (inflowNumbers i) i

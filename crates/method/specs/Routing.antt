@@ -15,17 +15,17 @@ unfoldable pub routedDischarge : ℕ → Figures → Figures → Estimate
 routedDischarge H inflow old = blended H 3 (discharge old) (discharge inflow)
 
 -- "Variance: a blends old variance with 0 (margin 0) by H"
-unfoldable pub keptVariance : ℕ → Estimate → Estimate
-keptVariance H old = blended H 3 old (estimate 0 0)
+unfoldable pub oldVariancePart : ℕ → Estimate → Estimate
+oldVariancePart H old = blended H 3 old (estimate 0 0)
 
 -- "b blends inflow variance with 0 by S − H"
-unfoldable pub broughtVariance : ℕ → Estimate → Estimate
-broughtVariance H inflow = blended (S - H) 3 inflow (estimate 0 0)
+unfoldable pub inflowVariancePart : ℕ → Estimate → Estimate
+inflowVariancePart H inflow = blended (S - H) 3 inflow (estimate 0 0)
 
 -- "then a and b blend by H, all with weight margin 3, and W is added to the value"
 unfoldable pub routedVariance : ℕ → ℕ → Estimate → Estimate → Estimate
 routedVariance H W inflow old =
-    let v : Estimate = blended H 3 (keptVariance H old) (broughtVariance H inflow) in
+    let v : Estimate = blended H 3 (oldVariancePart H old) (inflowVariancePart H inflow) in
     estimate (v .value + W) (v .margin)
 
 unfoldable pub routed : ℕ → ℕ → Figures → Figures → Figures
@@ -33,16 +33,16 @@ routed H W inflow old =
     figures (routedDischarge H inflow old) (routedVariance H W (variance inflow) (variance old))
 
 -- rule 16: "Some .. variance .. or the margin of any of these or of a blend on the way, would pass C"
-unfoldable pub judgedVariance : ℕ → ℕ → Estimate → Estimate → List ℕ
-judgedVariance H W inflow old =
+unfoldable pub varianceNumbers : ℕ → ℕ → Estimate → Estimate → List ℕ
+varianceNumbers H W inflow old =
     let v : Estimate = routedVariance H W inflow old in
-    keptVariance H old .margin ∷ broughtVariance H inflow .margin ∷ v .margin ∷ v .value ∷ []
+    oldVariancePart H old .margin ∷ inflowVariancePart H inflow .margin ∷ v .margin ∷ v .value ∷ []
 
 -- and the discharge with its margin
 unfoldable pub routingNumbers : ℕ → ℕ → Figures → Figures → List ℕ
 routingNumbers H W inflow old =
     let q : Estimate = routedDischarge H inflow old in
-    q .value ∷ q .margin ∷ judgedVariance H W (variance inflow) (variance old)
+    q .value ∷ q .margin ∷ varianceNumbers H W (variance inflow) (variance old)
 
 unfoldable pub routingAnswer : ℕ → ℕ → Figures → Figures → Answer Figures
 routingAnswer H W inflow old = underCeiling (routingNumbers H W inflow old) (routed H W inflow old)

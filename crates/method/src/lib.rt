@@ -1,6 +1,7 @@
+// The four figures of an element or an inflow, and their judgement by the ceiling.
 ghost use mathlib.Core.Path.{_≡_};
 ghost use Rattle.method.specs.Figures.{discharge, variance, figures, figuresAnswer, AnsweredFiguresFit};
-ghost use Rattle.method.specs.Inflow.{judgedInflow};
+ghost use Rattle.method.specs.Inflow.{inflowAnswer};
 use refusal::Refusal;
 use units::Discharge;
 use units::DischargeAnswer;
@@ -23,9 +24,9 @@ pub enum FiguresAnswer {
 }
 
 impl Figures {
-    // The figures of an inflow, or the refusal of one that passes the ceiling.
+    // The figures of a discharge and a variance, or the refusal of a number that passes the ceiling.
     pub fn new(q: Estimate, v: Estimate) -> FiguresAnswer
-        ensures { λ r. ⌜ (figuresAnswer r ≡ judgedInflow (figures q v)) × AnsweredFiguresFit r ⌝ }
+        ensures { λ r. ⌜ (figuresAnswer r ≡ inflowAnswer (figures q v)) × AnsweredFiguresFit r ⌝ }
     {
         let DischargeAnswer::Accepted(discharge) = Discharge::new(q.value) else {
             return FiguresAnswer::Refused(Refusal::AboveCeiling);

@@ -1,5 +1,3 @@
-pub mod WalkLaws
-pub mod InRangeLaws
-pub mod StateFitsLaws
-pub mod CoursesLaws
 pub mod StepLaws
+pub mod NumbersLaws
+pub mod LayoutLaws

@@ -5,9 +5,8 @@ use Rattle.method.specs.declared.Figures.{Figures}
 use Rattle.method.specs.Inflow.{forecastInflow}
 use Rattle.table.specs.Tables.{TableValues}
 use Rattle.state.specs.declared.Rains.{Rains}
-use Rattle.state.specs.declared.State.{State}
-use Rattle.state.specs.States.{placeOf}
-use Rattle.network.specs.Step.{newFigures, networkNumbers, noObservation, figuresIn}
+use Rattle.state.specs.States.{State, stepsOf, figuresOf, rainsOf}
+use Rattle.network.specs.Step.{newFigures, networkNumbers, noObservation}
 
 -- "c is the smaller of 3 and the step count"
 unfoldable pub rainCount : ℕ → ℕ
@@ -23,12 +22,12 @@ rainSum r (suc (suc (suc c))) = r .first + r .second + r .third
 -- "Basin inflow is [5 × s × area × f / (18 × c)] .. Its variance at the first lead is G, at the second 2 × G and so on"
 unfoldable pub forecastOwn : TableValues → State → ℕ → ℕ → Figures
 forecastOwn t s lead i =
-    let c : ℕ = rainCount (s .steps) in
-    forecastInflow (rainSum (placeOf s i .rains) c) c (t .element i .area) (t .element i .runoff) lead (t .element i .rain .0)
+    let c : ℕ = rainCount (stepsOf s) in
+    forecastInflow (rainSum (rainsOf s i) c) c (t .element i .area) (t .element i .runoff) lead (t .element i .«rain_noise» .0)
 
 -- the figures of each element at a lead; lead 0 is the state itself
 unfoldable pub leadFigures : TableValues → State → ℕ → ℕ → Figures
-leadFigures t s zero = figuresIn s
+leadFigures t s zero = figuresOf s
 leadFigures t s (suc lead) = newFigures t (forecastOwn t s (suc lead)) noObservation (leadFigures t s lead)
 
 -- 16, of the first leads

@@ -1,5 +1,4 @@
-pub mod Walk
 pub mod Step
-pub mod Bounds
 pub mod Forecast
-pub mod Held
+pub mod Answer
+pub mod Lent

@@ -1,19 +1,21 @@
 -- Document 01, One step, element 1 to N.
 use Prim.Native.Nat.{ℕ, zero, suc, _+_}
 use mathlib.Core.List.{List, [], _++_}
+use Rattle.weighting.specs.Weight.{weight}
 use Rattle.method.specs.declared.Figures.{Figures}
 use Rattle.method.specs.Inflow.{stepInflow, noInflow, joinedInflow}
 use Rattle.table.specs.Tables.{TableValues}
 use Rattle.record.specs.declared.Observation.{Observation}
 use Rattle.record.specs.declared.Observation.the-variants.{Nothing}
-use Rattle.record.specs.declared.Input.{Input}
-use Rattle.state.specs.declared.ElementState.{ElementState}
-use Rattle.state.specs.declared.State.{State}
-use Rattle.state.specs.States.{placeOf, filled}
-use Rattle.plan.specs.Plans.{weightOf}
+use Rattle.record.specs.Records.{Input}
+use Rattle.state.specs.States.{State, stepsOf, figuresOf, rainsOf, putSteps, putPlace, changed}
+use Rattle.walk.specs.Walk.{gathered, newCell}
 use Rattle.element_step.specs.ElementStep.{elementStep, elementNumbers}
-use Rattle.element_step.specs.Rains.{rainsAfter}
-use Rattle.network.specs.Walk.{gathered, newCell}
+use Rattle.element_step.specs.Rains.{shiftedRains}
+
+-- H of element i
+unfoldable pub weightOf : TableValues → ℕ → ℕ
+weightOf t i = weight (t .step) (t .element i .lag)
 
 -- the network at one step or lead, from the own inflow, the observation and the old figures of each element
 unfoldable pub networkDown : TableValues → ℕ → ℕ
@@ -22,13 +24,17 @@ networkDown t i = t .element i .down
 unfoldable pub networkCell : TableValues → (ℕ → Figures) → (ℕ → Observation) → ℕ → Figures → Figures → Figures
 networkCell t own o i above old = elementStep (weightOf t i) (t .element i) (own i) (o i) above old
 
+-- "the sums of the new ones of all elements draining into it": an element lets out its new figures
+unfoldable pub networkOutflow : ℕ → Figures → Figures → Figures
+networkOutflow i old new = new
+
 module _ (t : TableValues) (own : ℕ → Figures) (o : ℕ → Observation) (old : ℕ → Figures) where
   -- what drains into element i, and its new figures
   unfoldable pub aboveOf : ℕ → Figures
-  aboveOf i = gathered noInflow joinedInflow (networkDown t) (networkCell t own o) old i
+  aboveOf i = gathered noInflow joinedInflow (networkDown t) (networkCell t own o) networkOutflow old i
 
   unfoldable pub newFigures : ℕ → Figures
-  newFigures i = newCell noInflow joinedInflow (networkDown t) (networkCell t own o) old i
+  newFigures i = newCell noInflow joinedInflow (networkDown t) (networkCell t own o) networkOutflow old i
 
   -- 16, of the first i elements
   unfoldable pub networkNumbers : ℕ → List ℕ
@@ -40,30 +46,24 @@ module _ (t : TableValues) (own : ℕ → Figures) (o : ℕ → Observation) (ol
 unfoldable pub stepOwn : TableValues → (ℕ → Input) → ℕ → Figures
 stepOwn t input i = stepInflow (input i .rain) (t .element i .area) (t .element i .runoff)
 
-unfoldable pub observationIn : (ℕ → Input) → ℕ → Observation
-observationIn input i = input i .observation
+unfoldable pub observedIn : (ℕ → Input) → ℕ → Observation
+observedIn input i = input i .observation
 
--- no gauge tells anything
+-- no gauge observes anything
 unfoldable pub noObservation : ℕ → Observation
 noObservation i = Nothing
 
-unfoldable pub figuresIn : State → ℕ → Figures
-figuresIn s i = placeOf s i .figures
+-- a step from the state s, by what a record brings each element
+module _ (t : TableValues) (input : ℕ → Input) (s : State) where
+  unfoldable pub stepFigures : ℕ → Figures
+  stepFigures = newFigures t (stepOwn t input) (observedIn input) (figuresOf s)
 
-unfoldable pub stepPlace : TableValues → (ℕ → Input) → State → ℕ → ElementState
-stepPlace t input s i =
-    record {
-      figures = newFigures t (stepOwn t input) (observationIn input) (figuresIn s) i;
-      rains = rainsAfter (t .element i .kind) (input i .rain) (placeOf s i .rains);
-    }
+  -- the place of element i after it
+  unfoldable pub stepPut : ℕ → State → State
+  stepPut i = putPlace (t .element i .kind) (stepFigures i) (shiftedRains (input i .rain) (rainsOf s i)) i
 
-unfoldable pub stepped : TableValues → (ℕ → Input) → State → State
-stepped t input s =
-    record {
-      elements = s .elements;
-      steps = s .steps + 1;
-      element = filled (stepPlace t input s) (t .elements) (s .element);
-    }
+  unfoldable pub stepped : State
+  stepped = putSteps (changed stepPut (t .elements) s) (stepsOf s + 1)
 
-unfoldable pub stepNumbers : TableValues → (ℕ → Input) → State → List ℕ
-stepNumbers t input s = networkNumbers t (stepOwn t input) (observationIn input) (figuresIn s) (t .elements)
+  unfoldable pub stepNumbers : List ℕ
+  stepNumbers = networkNumbers t (stepOwn t input) (observedIn input) (figuresOf s) (t .elements)

@@ -12,7 +12,8 @@ use Rattle.table.specs.InUse.{tableIn}
 use Rattle.table.proofs.InUseLaws.{element-read}
 use Rattle.table.proofs.HeldLaws.{element-bounds}
 use Rattle.plan.specs.declared.Plan.{Plan}
-use Rattle.plan.specs.Plans.{weightOf, PlanFits}
+use Rattle.network.specs.Step.{weightOf}
+use Rattle.plan.specs.Plans.{PlanFits}
 
 -- an element in use, as it is read from the bytes
 module _ (bytes : List ℕ) (i : ℕ) (used : i < tableIn bytes .elements) where
@@ -36,6 +37,10 @@ module _ (bytes : List ℕ) (i : ℕ) (used : i < tableIn bytes .elements) where
       (rw s (t .bounds .stepLeast), (rw (s, l) (e .lagLeast), rw l (e .lagMost)))
 
 pub weight-in-range :
-    (bytes : List ℕ) (plan : Plan) → PlanFits bytes plan → (i : ℕ) → i < tableIn bytes .elements → getD (plan .weight) i 0 ≤ S
+    (bytes : List ℕ) (plan : Plan) (weight : List ℕ)
+    → PlanFits bytes plan weight
+    → (i : ℕ)
+    → i < tableIn bytes .elements
+    → getD weight i 0 ≤ S
 unfolding weightOf
-weight-in-range bytes plan p i l = rw (p .weights i l) (weight-most _ _)
+weight-in-range bytes plan weight p i l = rw (p .weights i l) (weight-most _ _)

@@ -1,19 +1,12 @@
 -- Laws of the sums of the last rains.
-use Prim.Native.Nat.{ℕ, zero, suc, _+_, _≤_, _<_}
-use mathlib.Core.List.{List}
+use Prim.Native.Nat.{ℕ, zero, suc, _+_, _≤_}
 use mathlib.Core.Logic.{_≢_}
-use mathlib.Core.Path.{_≡_, refl, _∙_}
-use borrow.Author.Tests.{eq-eqb}
-use lib.ListN.{getD}
-use Rattle.table.specs.InUse.{tableIn}
-use Rattle.table.proofs.InUseLaws.{element-read}
-use Rattle.elements.specs.Elements.{elementAt}
+use mathlib.Core.Path.{_≡_, refl}
+use Rattle.elements.specs.Kinds.{basin, reach}
+use Rattle.elements.proofs.KindLaws.{by-basin, by-reach, by-none}
 use Rattle.state.specs.declared.Rains.{Rains}
-use Rattle.state.specs.declared.State.{State}
-use Rattle.state.specs.States.{noPlace, placeOf}
 use Rattle.network.specs.Forecast.{rainSum}
-use Rattle.network.specs.Bounds.{RainsUnder}
-use Rattle.rain_sums.specs.Sums.{StateUnder, sumOf}
+use Rattle.rain_sums.specs.Sums.{sumOf}
 
 -- a count that is none of 0, 1 and 2
 pub all-three-rains :
@@ -29,17 +22,16 @@ all-three-rains r (suc zero) l a b d = absurd (b refl)
 all-three-rains r (suc (suc zero)) l a b d = absurd (d refl)
 all-three-rains r (suc (suc (suc c))) l a b d = refl
 
--- the sum of a basin's last rains
-pub sum-is : (kind : ℕ) (r : Rains) (c rain : ℕ) → rain ≡ sumOf kind r c → kind ≡ 1 → rain ≡ rainSum r c
-unfolding sumOf
-sum-is kind r c rain h k = h ∙ rw (eq-eqb kind 1 k)
+-- the sum by the kind
+module _ (kind : ℕ) (r : Rains) (c : ℕ) where
+  pub sum-basin : kind ≡ basin → sumOf kind r c ≡ rainSum r c
+  unfolding sumOf
+  sum-basin k = by-basin kind _ _ _ k
 
--- the rains of an element in use, as the code holds them
-pub rains-held :
-    (bytes : List ℕ) (s : State)
-    → StateUnder (tableIn bytes) s
-    → (i : ℕ)
-    → i < tableIn bytes .elements
-    → RainsUnder (elementAt bytes i .kind) (getD (s .element) i noPlace .rains)
-unfolding placeOf
-rains-held bytes s h i l = rw (element-read bytes i l) at (h .rains i l)
+  pub sum-reach : kind ≡ reach → sumOf kind r c ≡ 0
+  unfolding sumOf
+  sum-reach k = by-reach kind _ _ _ k
+
+  pub sum-none : kind ≢ basin → kind ≢ reach → sumOf kind r c ≡ 0
+  unfolding sumOf
+  sum-none p q = by-none kind _ _ _ p q

@@ -1,10 +1,15 @@
 // The sums of the last rains, for a forecast.
 ghost use mathlib.Core.Path.{_≡_};
 ghost use Prim.Native.Nat.{_≤_, _<_};
+ghost use Rattle.sizes.specs.Sizes.{mostElements};
+ghost use Rattle.elements.specs.Kinds.{basin};
+ghost use Rattle.state.specs.States.{rainsOf};
+ghost use Rattle.state.specs.Bounds.{RainsUnder};
 ghost use Rattle.network.specs.Forecast.{rainCount, rainSum};
-ghost use Rattle.network.specs.Bounds.{RainsUnder};
 ghost use Rattle.rain_sums.specs.Sums.{sumOf};
+use sizes::STATE_NUMBERS;
 use state::Rains;
+use state::rains_of;
 
 // The smaller of 3 and the step count.
 pub fn rain_count(steps: u64) -> u64
@@ -15,8 +20,8 @@ pub fn rain_count(steps: u64) -> u64
 
 // The sum of the last rains.
 fn rain_sum(rains: Rains, count: u64) -> u64
-    requires { ⌜ (count ≤ 3) × ((rains .first ≤ 3000) × ((rains .second ≤ 3000) × (rains .third ≤ 3000))) ⌝ }
-    ensures { λ r. ⌜ (r ≡ rainSum rains count) × (r < 9001) ⌝ }
+    requires { ⌜ (count ≤ 3) × RainsUnder rains ⌝ }
+    ensures { λ r. ⌜ (r ≡ rainSum rains count) × (r ≤ 9000) ⌝ }
 {
     match count {
         0 => 0,
@@ -26,13 +31,14 @@ fn rain_sum(rains: Rains, count: u64) -> u64
     }
 }
 
-// The sum of an element's last rains: a basin's own, and 0 for every other kind, whose rains are not read.
-pub fn sum_of(kind: u64, rains: Rains, count: u64) -> u64
-    requires { ⌜ (count ≤ 3) × RainsUnder kind rains ⌝ }
-    ensures { λ r. ⌜ (r ≡ sumOf kind rains count) × (r < 9001) ⌝ }
+// The sum of the last rains of element i: a basin's own; a reach's are not read.
+pub fn sum_of(kind: u64, state: &[u64; STATE_NUMBERS], i: usize, count: u64) -> u64
+    requires { ⌜ (i < mostElements) × ((count ≤ 3) × (kind ≡ basin → RainsUnder (rainsOf (now state) i))) ⌝ }
+    ensures { λ r. ⌜ (r ≡ sumOf kind (rainsOf (now (state .entry)) i) count) × (r ≤ 9000) ⌝ }
 {
     match kind {
-        1 => rain_sum(rains, count),
+        elements::BASIN => rain_sum(rains_of(state, i), count),
+        elements::REACH => 0,
         _ => 0,
     }
 }

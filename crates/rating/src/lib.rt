@@ -1,8 +1,8 @@
+// From a stage to a discharge, on a piece of the rating curve of a gauge.
 ghost use mathlib.Core.Path.{_≡_};
 ghost use Prim.Native.Nat.{_≤_};
-ghost use lib.ListN.{take};
 ghost use Rattle.units.specs.Answers.{dischargeAnswer};
-ghost use Rattle.rating.specs.Rating.{AnsweredDischargeFits, dischargeAt, onPiece, rated, PieceFits, CurveFits};
+ghost use Rattle.rating.specs.Rating.{AnsweredDischargeFits, dischargeAt, onPiece, PieceFits};
 use refusal::Refusal;
 use units::Discharge;
 use units::DischargeAnswer;
@@ -32,15 +32,14 @@ fn discharge_at(factor: u64, depth: u64) -> DischargeAnswer
     requires { ⌜ (factor ≤ 1000000) × (depth ≤ 60000) ⌝ }
     ensures { λ r. ⌜ (dischargeAnswer r ≡ dischargeAt factor depth) × AnsweredDischargeFits r ⌝ }
 {
-    let z = factor * (depth * depth) / 1_000;
-    if Discharge::CEILING < z {
+    let DischargeAnswer::Accepted(z) = Discharge::new(factor * (depth * depth) / 1_000) else {
         return DischargeAnswer::Refused(Refusal::ReadingRange);
-    }
-    DischargeAnswer::Accepted(Discharge(z))
+    };
+    DischargeAnswer::Accepted(z)
 }
 
 // The discharge of a stage on a piece.
-fn rate_on_piece(stage: u64, piece: Piece) -> DischargeAnswer
+pub fn rate_on_piece(stage: u64, piece: Piece) -> DischargeAnswer
     requires { ⌜ (stage ≤ 30000) × PieceFits piece ⌝ }
     ensures { λ r. ⌜ (dischargeAnswer r ≡ onPiece stage piece) × AnsweredDischargeFits r ⌝ }
 {
@@ -54,23 +53,4 @@ fn rate_on_piece(stage: u64, piece: Piece) -> DischargeAnswer
             discharge_at(piece.factor, stage - b)
         }
     }
-}
-
-// The discharge of a stage, by the first piece with the stage below its top.
-pub fn rate(stage: Stage, curve: Curve) -> DischargeAnswer
-    requires { ⌜ (stage .0 ≤ 30000) × CurveFits curve ⌝ }
-    ensures { λ r. ⌜ (dischargeAnswer r ≡ rated (stage .0) (take (curve .count) (curve .pieces))) × AnsweredDischargeFits r ⌝ }
-{
-    let h = stage.0;
-    let count = curve.count;
-    let mut i = 0;
-    while i < count {
-        let piece = curve.pieces[i];
-        let top = piece.top;
-        if h < top.0 {
-            return rate_on_piece(h, piece);
-        }
-        i += 1;
-    }
-    DischargeAnswer::Refused(Refusal::ReadingRange)
 }

@@ -1,3 +1,4 @@
+// The numbers for no, and whether a call is accepted.
 ghost use mathlib.Core.Path.{_≡_};
 ghost use Rattle.refusal.specs.Refusals.{number};
 
@@ -45,4 +46,10 @@ impl Refusal {
             Refusal::AboveCeiling => 16,
         }
     }
+}
+
+// Whether a call's input is accepted.
+pub enum Verdict {
+    Accepted,
+    Refused(Refusal),
 }

@@ -2,161 +2,176 @@
 use Prim.{Unit}
 use Prim.Native.Nat.{ℕ, _+_, _*_, _≤_}
 use mathlib.Core.Bool.{true, false}
-use mathlib.Core.List.{List, [], _∷_, _++_}
+use mathlib.Core.List.{List, _++_}
 use mathlib.Core.Path.{_≡_, refl, sym, ap, subst, fun-ext, _∙_}
 use native.Mathlib.Omega.{arith}
 use lib.Dec.{leb}
 use lib.ListN.{length, drop}
+use Rattle.sizes.specs.Sizes.{mostElements, mostLeads, stateNumbers, answerNumbers, textBytes}
 use Rattle.refusal.specs.Refusals.{number}
 use Rattle.refusal.specs.Answers.{Answer, accepted, refused}
 use Rattle.refusal.specs.declared.Refusal.{Refusal}
-use Rattle.text.specs.Places.{Put}
-use Rattle.text.proofs.PlacesLaws.{put-same}
-use Rattle.lines.specs.Printed.{answerLines, refusalLine}
-use Rattle.lines.proofs.PrintedLaws.{lines-before}
+use Rattle.refusal.specs.declared.Verdict.{Verdict}
+use Rattle.refusal.specs.declared.Verdict.the-variants.{Accepted, Refused}
+use Rattle.refusal.specs.Verdicts.{verdictAnswer}
+use Rattle.refusal.proofs.RuleLaws.{not-both}
 use Rattle.method.specs.declared.Figures.{Figures}
 use Rattle.table.specs.Bounds.{TableBounds}
 use Rattle.table.specs.InUse.{tableIn}
 use Rattle.table.specs.Rules.{tableRules}
-use Rattle.table.proofs.TableLaws.{rules-accepted}
-use Rattle.engine.proofs.NextLaws.{next-fits}
-use Rattle.engine.specs.Entries.{stepAnswer, stepOnAnswer, forecastAnswer, forecastOnAnswer}
-use Rattle.table.specs.declared.Verdict.the-variants.{Accepted, Refused}
 use Rattle.table.specs.Tables.{TableValues}
-use Rattle.table.specs.Verdicts.{verdictAnswer}
-use Rattle.state.specs.declared.State.{State}
+use Rattle.table.proofs.TableLaws.{rules-accepted}
+use Rattle.state.specs.States.{State, stepsOf}
 use Rattle.state.specs.Rules.{stateFits}
-use Rattle.state.specs.declared.StateAnswer.{StateAnswer}
 use Rattle.state.specs.Answers.{verdict, stateAfter, Answered}
-use Rattle.leads.specs.declared.ForecastAnswer.{ForecastAnswer}
-use Rattle.leads.specs.declared.ForecastAnswer.the-variants as forecasts
-use Rattle.leads.specs.Lent.{layout, countAnswer, countWritten, lentAfter, Lent}
-use Rattle.report.specs.declared.RecordAnswer.{RecordAnswer}
-use Rattle.report.specs.declared.TextAnswer.{TextAnswer}
-use Rattle.report.specs.Records.{Printed, room, figuresLines, refusalPrinted, forecastPrinted, stepPrinted, recordPrinted, recordOnPrinted}
-use Rattle.report.specs.Answers.{Told, ToldOf, Reported}
-use Rattle.report.proofs.FiguresLaws.{length-layout, few-figures}
-use Rattle.lines.specs.Ceiling.{FiguresUnderCeiling}
+use Rattle.state.proofs.AnswerLaws.{answered-next}
 use Rattle.plan.specs.declared.Plan.{Plan}
 use Rattle.plan.specs.Plans.{PlanFits}
+use Rattle.network.specs.Lent.{layout}
+use Rattle.entries.specs.Entries.{stepAnswer, stepOnAnswer, forecastAnswer, forecastOnAnswer}
+use Rattle.entries.proofs.NextLaws.{next-fits, next-length}
+use Rattle.text.specs.Places.{Put}
+use Rattle.text.proofs.PlacesLaws.{put-same}
+use Rattle.lines.specs.Ceiling.{FiguresUnderCeiling}
+use Rattle.lines.specs.Printed.{answerLines, refusalLine}
+use Rattle.lines.proofs.PrintedLaws.{lines-before}
+use Rattle.report.specs.declared.TextAnswer.{TextAnswer}
+use Rattle.report.specs.Records.{Printed, figuresLines, refusalPrinted, forecastPrinted, stepPrinted, recordPrinted, recordOnPrinted}
+use Rattle.report.specs.Answers.{RecordReady, TextAnswered, TextAnsweredOf, Reported}
+use Rattle.report.proofs.FiguresLaws.{ForecastShown, few-lines}
 
-pub reported-as :
-    {r : RecordAnswer} {before after : List ℕ} {at : ℕ} {p q : Printed} → p ≡ q → Reported r before at after p → Reported r before at after q
-reported-as {r} {before} {after} {at} e h = subst (λ (x : Printed). Reported r before at after x) e h
-
--- a record whose bytes are known by another name
-pub reported-on :
-    (t : TableValues) (s : State) (a b : List ℕ) {r : RecordAnswer} {before after : List ℕ} {at : ℕ}
-    → a ≡ b
-    → Reported r before at after (recordOnPrinted t a s)
-    → Reported r before at after (recordOnPrinted t b s)
-reported-on t s a b e h = reported-as (ap (λ bytes. recordOnPrinted t bytes s) e) h
+-- ---- the text
 
 -- a refusal's line
-pub refusal-told :
+pub refusal-text :
     (steps n code end : ℕ) {before after : List ℕ} {at : ℕ}
     → code ≡ n
     → Put before at (refusalLine steps code) after end
     → end ≤ at + 50
-    → Told (record { end = end; ended = leb code 10 }) before at after (refusalLine steps n) (leb n 10)
-refusal-told steps n code end e p few = record { text = rw e at p; ended = ap (λ k. leb k 10) e; within = omega arith }
+    → TextAnswered (record { end = end; ended = leb code 10 }) before at after (refusalLine steps n) (leb n 10)
+refusal-text steps n code end e p few = record { text = rw e at p; ended = ap (λ k. leb k 10) e; within = omega arith }
 
--- what is told of a refusal, where another name says the same
-pub told-refusal :
-    (s : State) (n : ℕ) (r : TextAnswer) {before after : List ℕ} {at : ℕ} {p : Printed}
-    → refusalPrinted s n ≡ p
-    → Told r before at after (refusalLine (s .steps) n) (leb n 10)
-    → ToldOf r before at after p
+-- what is printed of a refusal, where another name says the same
+pub text-as :
+    {r : TextAnswer} {before after : List ℕ} {at : ℕ} {p q : Printed}
+    → p ≡ q
+    → TextAnsweredOf r before at after p
+    → TextAnsweredOf r before at after q
+text-as {r} {before} {after} {at} e h = subst (λ (x : Printed). TextAnsweredOf r before at after x) e h
+
+pub refusal-printed :
+    (s : State) (n : ℕ) {r : TextAnswer} {before after : List ℕ} {at : ℕ}
+    → TextAnswered r before at after (refusalLine (stepsOf s) n) (leb n 10)
+    → TextAnsweredOf r before at after (refusalPrinted s n)
 unfolding refusalPrinted
-told-refusal s n r {before} {after} {at} e h = subst (λ (x : Printed). ToldOf r before at after x) e h
+refusal-printed s n h = h
 
 -- the lines of an accepted forecast
-pub lines-told :
-    (t : TableValues) (s : State) (answer : Answer (List Figures)) (r : ForecastAnswer) (count end : ℕ) {numbers numbers′ before after : List ℕ} {at : ℕ}
-    → Lent r numbers′ answer numbers
-    → r ≡ forecasts.Accepted count
-    → ((fs : List Figures) → answer ≡ accepted fs → length fs ≡ t .elements * (t .leads + 1))
-    → Put before at (answerLines (s .steps) (t .leads + 1) numbers′ (t .elements)) after end
-    → end ≤ at + 122304
-    → ToldOf (record { end = end; ended = false }) before at after (forecastPrinted t s answer)
-unfolding forecastPrinted figuresLines countWritten lentAfter
-lines-told t s (accepted fs) r count end {numbers} lent e counted p few =
-    let same = lines-before (s .steps) (t .leads + 1) (t .elements) (layout fs) (drop (length (layout fs)) numbers) (omega (arith, length-layout fs, counted fs refl)) in
-    record { text = put-same (ap (λ l. answerLines (s .steps) (t .leads + 1) l (t .elements)) (lent .numbers) ∙ same) p; ended = refl; within = few }
-lines-told t s (refused n) r count end lent e counted p few =
-    let c : accepted count ≡ refused n = sym (ap countAnswer e) ∙ lent .count in
-    let z : _≡_ {A = ℕ} 0 1 = cc in absurd (omega arith)
+pub lines-printed :
+    (t : TableValues) (s : State) (numbers : List ℕ) (end : ℕ) {before after : List ℕ} {at : ℕ}
+    → ForecastShown t s numbers
+    → Put before at (answerLines (stepsOf s) (t .leads + 1) numbers (t .elements)) after end
+    → end ≤ at + textBytes
+    → TextAnsweredOf (record { end = end; ended = false }) before at after (forecastPrinted t s (forecastOnAnswer t s answerNumbers))
+unfolding forecastPrinted figuresLines
+lines-printed t s numbers end {before} {after} {at} h p few =
+    let all = layout (h .figures) in
+    let behind = drop (length (layout (h .figures))) numbers in
+    let same = lines-before (stepsOf s) (t .leads + 1) (t .elements) (layout (h .figures)) behind (omega (arith, h .counted)) in
+    rw (h .answered)
+    (record {
+      text = put-same (ap (λ (l : List ℕ). answerLines (stepsOf s) (t .leads + 1) l (t .elements)) (sym (h .shown)) ∙ same) p;
+      ended = refl;
+      within = few;
+    })
 
--- a refused forecast
+-- a refused one
 pub forecast-refused :
-    (t : TableValues) (s : State) (answer : Answer (List Figures)) (r : ForecastAnswer) (k : Refusal) {numbers numbers′ : List ℕ}
-    → Lent r numbers′ answer numbers
-    → r ≡ forecasts.Refused k
-    → refusalPrinted s (number k) ≡ forecastPrinted t s answer
-unfolding forecastPrinted countWritten
-forecast-refused t s (accepted fs) r k lent e =
-    let c : refused (number k) ≡ accepted (length (layout fs)) = sym (ap countAnswer e) ∙ lent .count in
-    let z : _≡_ {A = ℕ} 0 1 = cc in absurd (omega arith)
-forecast-refused t s (refused n) r k lent e =
-    let c : _≡_ {A = Answer ℕ} (refused (number k)) (refused n) = sym (ap countAnswer e) ∙ lent .count in
-    let z : number k ≡ n = cc in
-    rw z
+    (t : TableValues) (s : State) (k : ℕ)
+    → forecastOnAnswer t s answerNumbers ≡ refused k
+    → refusalPrinted s k ≡ forecastPrinted t s (forecastOnAnswer t s answerNumbers)
+unfolding forecastPrinted
+forecast-refused t s k e = rw e
 
--- the state beside the text
-pub with-state :
-    (s : State) (r : TextAnswer) {before after : List ℕ} {at : ℕ} {p q : Printed}
-    → ToldOf r before at after p
-    → s ≡ p .state
-    → p ≡ q
-    → Reported (record { state = s; end = r .end; ended = r .ended }) before at after q
-with-state s r h k e = reported-as e (record { text = h .text; state = k; ended = h .ended; within = h .within })
+-- ---- the state beside it
 
-pub forecast-state : (t : TableValues) (s : State) (answer : Answer (List Figures)) → s ≡ forecastPrinted t s answer .state
+forecast-state : (t : TableValues) (s : State) (answer : Answer (List Figures)) → s ≡ forecastPrinted t s answer .state
 unfolding forecastPrinted refusalPrinted
 forecast-state t s (accepted fs) = refl
 forecast-state t s (refused n) = refl
 
-pub refusal-state : (s : State) (n : ℕ) → s ≡ refusalPrinted s n .state
+refusal-state : (s : State) (n : ℕ) → s ≡ refusalPrinted s n .state
 unfolding refusalPrinted
 refusal-state s n = refl
 
--- an accepted step, and the forecast after it
-pub step-accepted :
-    (t : TableValues) (forecast : State → Answer (List Figures)) (s : State) (answer : Answer State) (a : StateAnswer)
-    → Answered a answer s
-    → a .verdict ≡ Accepted
-    → forecastPrinted t (a .state) (forecast (a .state)) ≡ stepPrinted t forecast s answer
-unfolding stepPrinted verdict stateAfter
-step-accepted t forecast s (accepted next) a h e = rw (h .state)
-step-accepted t forecast s (refused n) a h e =
-    let c : accepted tt ≡ refused n = sym (ap verdictAnswer e) ∙ h .verdict in
-    let z : _≡_ {A = ℕ} 0 1 = cc in absurd (omega arith)
+module _ (t : TableValues) (bytes : List ℕ) (s after : State) (v : Verdict) (h : Answered v after (stepOnAnswer t bytes s) s) where
+  -- the state is as long as before
+  pub step-length : TableBounds t → length s ≡ stateNumbers → length after ≡ stateNumbers
+  unfolding stateAfter
+  step-length bounds full = go (stepOnAnswer t bytes s) refl (h .state)
+    where
+      go : (answer : Answer State) → stepOnAnswer t bytes s ≡ answer → after ≡ stateAfter answer s → length after ≡ stateNumbers
+      go (accepted next) e k = rw k (next-length t bytes s next bounds full e)
+      go (refused n) e k = rw k full
 
--- a refused step
-pub step-refused :
-    (t : TableValues) (forecast : State → Answer (List Figures)) (s : State) (answer : Answer State) (a : StateAnswer) (k : Refusal)
-    → Answered a answer s
-    → a .verdict ≡ Refused k
-    → refusalPrinted (a .state) (number k) ≡ stepPrinted t forecast s answer
-unfolding stepPrinted verdict stateAfter
-step-refused t forecast s (accepted next) a k h e =
-    let c : refused (number k) ≡ accepted tt = sym (ap verdictAnswer e) ∙ h .verdict in
-    let z : _≡_ {A = ℕ} 0 1 = cc in absurd (omega arith)
-step-refused t forecast s (refused n) a k h e =
-    let c : _≡_ {A = Answer Unit} (refused (number k)) (refused n) = sym (ap verdictAnswer e) ∙ h .verdict in
-    let z : number k ≡ n = cc in
-    rw (z, h .state)
+  -- an accepted step, and the forecast after it
+  step-accepted : v ≡ Accepted → forecastPrinted t after (forecastOnAnswer t after answerNumbers) ≡ recordOnPrinted t bytes s
+  unfolding recordOnPrinted stepPrinted
+  step-accepted e = rw (answered-next v after (stepOnAnswer t bytes s) s h e)
 
--- the counts of a plan: at most 64 × 13 lines
-module _ (bytes : List ℕ) (plan : Plan) (p : PlanFits bytes plan) where
-  pub few-elements : plan .elements ≤ 64
+  -- a refused step
+  step-refused : (k : Refusal) → v ≡ Refused k → (after ≡ s) × (refusalPrinted s (number k) ≡ recordOnPrinted t bytes s)
+  unfolding recordOnPrinted stepPrinted verdict stateAfter
+  step-refused k e = go (stepOnAnswer t bytes s) (h .verdict) (h .state)
+    where
+      go :
+          (answer : Answer State)
+          → verdictAnswer v ≡ verdict answer
+          → after ≡ stateAfter answer s
+          → (after ≡ s) × (refusalPrinted s (number k) ≡ stepPrinted t (λ next. forecastOnAnswer t next answerNumbers) s answer)
+      go (accepted next) u m = absurd (not-both u (ap verdictAnswer e))
+      go (refused n) u m =
+          let c : _≡_ {A = Answer Unit} (refused (number k)) (refused n) = sym (ap verdictAnswer e) ∙ u in
+          let z : number k ≡ n = cc in (m, rw z)
+
+  pub reported-accepted :
+      {r : TextAnswer} {before out : List ℕ} {at : ℕ}
+      → v ≡ Accepted
+      → TextAnsweredOf r before at out (forecastPrinted t after (forecastOnAnswer t after answerNumbers))
+      → Reported r before at out after (recordOnPrinted t bytes s)
+  reported-accepted {r} {before} {out} {at} e k =
+      rw (← step-accepted e) (record { answered = k; left = forecast-state t after (forecastOnAnswer t after answerNumbers) })
+
+  pub reported-refused :
+      (k : Refusal) {r : TextAnswer} {before out : List ℕ} {at : ℕ}
+      → v ≡ Refused k
+      → TextAnswered r before at out (refusalLine (stepsOf after) (number k)) (leb (number k) 10)
+      → Reported r before at out after (recordOnPrinted t bytes s)
+  reported-refused k {r} {before} {out} {at} e x =
+      let both = step-refused k e in
+      let x′ : TextAnswered r before at out (refusalLine (stepsOf s) (number k)) (leb (number k) 10) = rw (both .0) at x in
+      rw (← both .1) (record { answered = refusal-printed s (number k) x′; left = both .0 ∙ refusal-state s (number k) })
+
+-- a record whose bytes are known by another name
+pub reported-on :
+    (t : TableValues) (s : State) (a b : List ℕ) {r : TextAnswer} {before out after : List ℕ} {at : ℕ}
+    → a ≡ b
+    → Reported r before at out after (recordOnPrinted t a s)
+    → Reported r before at out after (recordOnPrinted t b s)
+reported-on t s a b {r} {before} {out} {after} {at} e h =
+    subst (λ (bytes : List ℕ). Reported r before at out after (recordOnPrinted t bytes s)) e h
+
+-- ---- the counts of a plan
+
+module _ (bytes : List ℕ) (plan : Plan) (weights : List ℕ) (p : PlanFits bytes plan weights) where
+  pub few-elements : plan .elements ≤ mostElements
   few-elements = omega (arith, p .elements, p .table .bounds .elementsMost)
 
-  pub few-leads : plan .leads + 1 ≤ 13
+  pub few-leads : plan .leads + 1 ≤ mostLeads + 1
   few-leads = omega (arith, p .leads, p .table .bounds .leadsMost)
 
-  pub lines-few : plan .elements * (plan .leads + 1) ≤ 832
-  lines-few = few-figures (plan .elements) (plan .leads + 1) few-elements few-leads
+  pub lines-few : plan .elements * (plan .leads + 1) ≤ mostElements * (mostLeads + 1)
+  lines-few = few-lines (plan .elements) (plan .leads + 1) few-elements few-leads
 
   -- and its lines are those of the table
   pub plan-lines :
@@ -165,11 +180,13 @@ module _ (bytes : List ℕ) (plan : Plan) (p : PlanFits bytes plan) where
       → Put before at (answerLines steps (tableIn bytes .leads + 1) numbers (tableIn bytes .elements)) after end
   plan-lines steps numbers h = put-same (rw (p .leads, p .elements)) h
 
-  pub plan-figures :
+  pub plan-under :
       (numbers : List ℕ)
       → FiguresUnderCeiling numbers (4 * (tableIn bytes .elements * (tableIn bytes .leads + 1)))
       → FiguresUnderCeiling numbers (4 * (plan .elements * (plan .leads + 1)))
-  plan-figures numbers h = rw (p .leads, p .elements) h
+  plan-under numbers h = rw (p .leads, p .elements) h
+
+-- ---- what a record leaves
 
 -- a record on the bytes of an accepted table is one on what they say
 pub record-on :
@@ -179,23 +196,50 @@ pub record-on :
 unfolding recordPrinted recordOnPrinted stepAnswer forecastAnswer
 record-on table bytes s h =
     let e :
-    _≡_ {A = State → Answer (List Figures)} (λ next. tableRules table (forecastOnAnswer (tableIn table) next room))
-    (λ next. forecastOnAnswer (tableIn table) next room) =
+    _≡_ {A = State → Answer (List Figures)} (λ next. tableRules table (forecastOnAnswer (tableIn table) next answerNumbers))
+    (λ next. forecastOnAnswer (tableIn table) next answerNumbers) =
     fun-ext (λ next. rules-accepted table _ h) in
     rw (e, rules-accepted table (stepOnAnswer (tableIn table) bytes s) h)
 
--- the state that a record leaves is one that rule 8 accepts, where the state before it was
-pub record-fits :
-    (t : TableValues) (bytes : List ℕ) (s : State)
-    → TableBounds t
-    → stateFits t s ≡ true
-    → stateFits t (recordOnPrinted t bytes s .state) ≡ true
-unfolding recordOnPrinted stepPrinted
-record-fits t bytes s bounds fits = go (stepOnAnswer t bytes s) refl
-  where
-    go :
-        (answer : Answer State)
-        → stepOnAnswer t bytes s ≡ answer
-        → stateFits t (stepPrinted t (λ next. forecastOnAnswer t next room) s answer .state) ≡ true
-    go (accepted next) e = rw (← forecast-state t next (forecastOnAnswer t next room)) (next-fits t bytes s next bounds e)
-    go (refused n) e = rw (← refusal-state s n) fits
+-- the state that a record leaves is one that rule 8 accepts, where the state before it was, and as long
+module _ (t : TableValues) (bytes : List ℕ) (s : State) (bounds : TableBounds t) (full : length s ≡ stateNumbers) where
+  record-fits : stateFits t s ≡ true → stateFits t (recordOnPrinted t bytes s .state) ≡ true
+  unfolding recordOnPrinted stepPrinted
+  record-fits fits = go (stepOnAnswer t bytes s) refl
+    where
+      go :
+          (answer : Answer State)
+          → stepOnAnswer t bytes s ≡ answer
+          → stateFits t (stepPrinted t (λ next. forecastOnAnswer t next answerNumbers) s answer .state) ≡ true
+      go (accepted next) e =
+          rw (← forecast-state t next (forecastOnAnswer t next answerNumbers)) (next-fits t bytes s next bounds full e)
+      go (refused n) e = rw (← refusal-state s n) fits
+
+  record-length : length (recordOnPrinted t bytes s .state) ≡ stateNumbers
+  unfolding recordOnPrinted stepPrinted
+  record-length = go (stepOnAnswer t bytes s) refl
+    where
+      go :
+          (answer : Answer State)
+          → stepOnAnswer t bytes s ≡ answer
+          → length (stepPrinted t (λ next. forecastOnAnswer t next answerNumbers) s answer .state) ≡ stateNumbers
+      go (accepted next) e =
+          rw (← forecast-state t next (forecastOnAnswer t next answerNumbers)) (next-length t bytes s next bounds full e)
+      go (refused n) e = rw (← refusal-state s n) full
+
+-- and all that the next record relies on is there again, before it has a place for its text
+pub record-ready :
+    (table bytes : List ℕ) (plan : Plan) (weights : List ℕ) (s : State) (space out : List ℕ) {after : State} {space′ out′ : List ℕ}
+    → RecordReady table plan weights s space out 0
+    → after ≡ recordOnPrinted (tableIn table) bytes s .state
+    → length space′ ≡ length space
+    → length out′ ≡ length out
+    → RecordReady table plan weights after space′ out′ 0
+record-ready table bytes plan weights s space out h e m n =
+    record {
+      planned = h .planned;
+      stateWhole = rw e (record-length (tableIn table) bytes s (h .planned .table .bounds) (h .stateWhole));
+      stateKept = rw e (record-fits (tableIn table) bytes s (h .planned .table .bounds) (h .stateWhole) (h .stateKept));
+      spaceFull = m ∙ h .spaceFull;
+      room = omega (arith, h .room, n);
+    }

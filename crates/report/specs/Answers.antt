@@ -1,30 +1,43 @@
--- What the code answers for a record.
+-- Serves the code: what it relies on, and what it answers for a record.
 use Prim.Native.Nat.{ℕ, _+_, _≤_}
-use mathlib.Core.Bool.{Bool}
+use mathlib.Core.Bool.{Bool, true}
 use mathlib.Core.List.{List}
 use mathlib.Core.Path.{_≡_}
-use Rattle.text.specs.Places.{Put}
-use Rattle.report.specs.declared.RecordAnswer.{RecordAnswer}
-use Rattle.report.specs.declared.TextAnswer.{TextAnswer}
 use lib.ListN.{length, take, drop}
+use Rattle.sizes.specs.Sizes.{stateNumbers, forecastSpace, textBytes}
+use Rattle.table.specs.InUse.{tableIn}
+use Rattle.state.specs.States.{State}
+use Rattle.state.specs.Rules.{stateFits}
+use Rattle.plan.specs.declared.Plan.{Plan}
+use Rattle.plan.specs.Plans.{PlanFits}
+use Rattle.text.specs.Places.{Put}
+use Rattle.report.specs.declared.TextAnswer.{TextAnswer}
 use Rattle.report.specs.Records.{Printed}
 use Rattle.report.specs.Program.{recordBytes, restAfter}
 
--- a text is put at a place; a record prints at most 64 × 13 lines of 147 bytes
-pub record Told (r : TextAnswer) (before : List ℕ) (at : ℕ) (after line : List ℕ) (ends : Bool) : Type 0 where
+-- an accepted table with its plan and weights, a state that rule 8 accepts, working space for a forecast, and room for a record's text
+pub record RecordReady
+    (table : List ℕ) (plan : Plan) (weights : List ℕ) (state : State) (space out : List ℕ) (at : ℕ)
+    : Type 0 where
+  pub planned : PlanFits table plan weights
+  pub stateWhole : length state ≡ stateNumbers
+  pub stateKept : stateFits (tableIn table) state ≡ true
+  pub spaceFull : length space ≡ forecastSpace
+  pub room : at + textBytes ≤ length out
+
+-- a text is put at a place
+pub record TextAnswered (r : TextAnswer) (before : List ℕ) (at : ℕ) (after line : List ℕ) (ends : Bool) : Type 0 where
   pub text : Put before at line after (r .end)
   pub ended : r .ended ≡ ends
-  pub within : r .end ≤ at + 122304
+  pub within : r .end ≤ at + textBytes
 
-abbrev pub ToldOf : TextAnswer → List ℕ → ℕ → List ℕ → Printed → Type 0
-ToldOf r before at after printed = Told r before at after (printed .text) (printed .ended)
+abbrev pub TextAnsweredOf : TextAnswer → List ℕ → ℕ → List ℕ → Printed → Type 0
+TextAnsweredOf r before at after printed = TextAnswered r before at after (printed .text) (printed .ended)
 
--- the text is put at a place, with what follows from the record
-pub record Reported (r : RecordAnswer) (before : List ℕ) (at : ℕ) (after : List ℕ) (printed : Printed) : Type 0 where
-  pub text : Put before at (printed .text) after (r .end)
-  pub state : r .state ≡ printed .state
-  pub ended : r .ended ≡ printed .ended
-  pub within : r .end ≤ at + 122304
+-- the text is put at a place, and every number of the state is the record's
+pub record Reported (r : TextAnswer) (before : List ℕ) (at : ℕ) (after : List ℕ) (state : State) (printed : Printed) : Type 0 where
+  pub answered : TextAnsweredOf r before at after printed
+  pub left : state ≡ printed .state
 
 -- the bytes of the next record, and of the input after it
 pub record RecordEnd (rest : List ℕ) (size : ℕ) : Type 0 where

@@ -5,8 +5,8 @@ use mathlib.Core.List.{List, [], _∷_, _++_}
 use lib.ListN.{take, drop}
 use Rattle.refusal.specs.Answers.{Answer, accepted, refused}
 use Rattle.fields.specs.Bytes.{number16, number32}
-use Rattle.state.specs.declared.State.{State}
-use Rattle.opening.specs.Start.{tableBytes, openAnswer}
+use Rattle.state.specs.States.{State}
+use Rattle.table_input.specs.Start.{tablePart, emptyState, inputAnswer}
 use Rattle.lines.specs.Printed.{refusalLine}
 use Rattle.report.specs.Records.{Printed, recordPrinted}
 
@@ -30,10 +30,10 @@ recordsText (suc left) table (b ∷ rest) s =
     p .text ++ elim (p .ended) [ true ↦ [] | false ↦ more ]
 
 -- "After 100,000 records, refused ones counted, the run ends in the same way."
-unfoldable pub openText : List ℕ → Answer State → List ℕ
-openText input (accepted s) = recordsText 100000 (tableBytes input) (drop (number32 input 0 + 4) input) s
-openText input (refused n) = refusalLine 0 n
+unfoldable pub runText : List ℕ → Answer State → List ℕ
+runText input (accepted s) = recordsText 100000 (tablePart input) (drop (number32 input 0 + 4) input) s
+runText input (refused n) = refusalLine 0 n
 
 -- from standard input to standard output
 unfoldable pub program : List ℕ → List ℕ
-program input = openText input (openAnswer input)
+program input = runText input (inputAnswer input emptyState)

@@ -1,32 +1,24 @@
+// What the program prints of a record, and the state that the record leaves.
 ghost use mathlib.Core.Path.{_≡_};
-ghost use mathlib.Core.Bool.{true};
 ghost use Prim.Native.Nat.{_+_, _≤_};
 ghost use lib.Dec.{leb};
 ghost use lib.ListN.{length};
+ghost use Rattle.sizes.specs.Sizes.{answerNumbers};
 ghost use Rattle.refusal.specs.Refusals.{number};
 ghost use Rattle.table.specs.InUse.{tableIn};
-ghost use Rattle.plan.specs.Plans.{PlanFits};
-ghost use Rattle.state.specs.Rules.{stateFits};
 ghost use Rattle.lines.specs.Printed.{refusalLine};
-ghost use Rattle.engine.specs.Entries.{forecastOnAnswer};
+ghost use Rattle.entries.specs.Entries.{forecastOnAnswer};
 ghost use Rattle.report.specs.Records.{forecastPrinted, recordOnPrinted};
-ghost use Rattle.report.specs.Answers.{Told, ToldOf, Reported, RecordEnd};
+ghost use Rattle.report.specs.Answers.{RecordReady, TextAnswered, TextAnsweredOf, Reported, RecordEnd};
 ghost use Rattle.report.specs.Program.{recordBytes};
 use fields::bytes::read16;
-use leads::ForecastAnswer;
 use lines::put_lines;
 use lines::put_refusal;
+use network::ForecastAnswer;
 use plan::Plan;
 use refusal::Refusal;
-use state::State;
-use table::Verdict;
-
-// The state after a record, the place after its text, and whether it ends the run.
-pub struct RecordAnswer {
-    pub state: State,
-    pub end: usize,
-    pub ended: bool,
-}
+use refusal::Verdict;
+use sizes::STATE_NUMBERS;
 
 // The place after a record's text, and whether it ends the run.
 pub struct TextAnswer {
@@ -37,7 +29,7 @@ pub struct TextAnswer {
 // A refusal's line, put at a place, after so many accepted steps.
 fn answer_refusal(refusal: Refusal, steps: u64, out: &mut [u8], at: usize) -> TextAnswer
     requires { ⌜ at + 50 ≤ length (now out) ⌝ }
-    ensures { λ r. ⌜ Told r (now (out .entry)) at (now (out .exit)) (refusalLine steps (number refusal)) (leb (number refusal) 10) ⌝ }
+    ensures { λ r. ⌜ TextAnswered r (now (out .entry)) at (now (out .exit)) (refusalLine steps (number refusal)) (leb (number refusal) 10) ⌝ }
 {
     let code = refusal.code();
     let end = put_refusal(&mut *out, at, steps, code);
@@ -47,60 +39,61 @@ fn answer_refusal(refusal: Refusal, steps: u64, out: &mut [u8], at: usize) -> Te
     }
 }
 
-// The forecast after an accepted step, which rule 8 never refuses: its lines, or its refusal's.
+// The forecast after an accepted step, which rule 8 never refuses: its lines, or its refusal's. It is worked out in lent space, in which
+// its answer begins after the places of what leaves the river.
 fn answer_forecast(
     table: &[u8],
     plan: Plan,
-    state: State,
-    numbers: &mut [u64],
+    weights: &[u64],
+    state: &[u64; STATE_NUMBERS],
+    space: &mut [u64],
     out: &mut [u8],
     at: usize,
 ) -> TextAnswer
-    requires { ⌜ PlanFits (now table) plan × ((stateFits (tableIn (now table)) state ≡ true) × ((length (now numbers) ≡ 3328) × (at + 122304 ≤ length (now out)))) ⌝ }
-    ensures { λ r. ⌜ ToldOf r (now (out .entry)) at (now (out .exit)) (forecastPrinted (tableIn (now (table .entry))) state (forecastOnAnswer (tableIn (now (table .entry))) state 3328)) ⌝ }
+    requires { ⌜ RecordReady (now table) plan (now weights) (now state) (now space) (now out) at ⌝ }
+    ensures { λ r. ⌜ TextAnsweredOf r (now (out .entry)) at (now (out .exit)) (forecastPrinted (tableIn (now (table .entry))) (now (state .entry)) (forecastOnAnswer (tableIn (now (table .entry))) (now (state .entry)) answerNumbers)) ⌝ }
 {
-    let answer = leads::forecast_in(table, plan, state, &mut *numbers);
+    let answer = leads::forecast_in(table, plan, weights, state, &mut *space);
+    let steps = state[1];
+    let elements = plan.elements;
+    let leads = plan.leads + 1;
+    let first = 4 * leads;
     match answer {
         ForecastAnswer::Accepted(_) => {
-            let end = put_lines(
-                &mut *out,
-                at,
-                &*numbers,
-                state.steps,
-                plan.elements,
-                plan.leads + 1,
-            );
+            let end = put_lines(&mut *out, at, &space[first..], steps, elements, leads);
             TextAnswer { end, ended: false }
         }
-        ForecastAnswer::Refused(refusal) => answer_refusal(refusal, state.steps, &mut *out, at),
+        ForecastAnswer::Refused(refusal) => answer_refusal(refusal, steps, &mut *out, at),
     }
 }
 
-// A record on an accepted table, its plan and a state that rule 8 accepts: what it prints is put at a place of lent space; the numbers are lent for its
-// forecast.
+// A record on an accepted table, its plan and weights, and a state that rule 8 accepts: what it prints is put at a place of lent space;
+// the other space is lent for its forecast.
 fn answer_record(
     table: &[u8],
     plan: Plan,
+    weights: &[u64],
     bytes: &[u8],
-    state: State,
-    numbers: &mut [u64],
+    state: &mut [u64; STATE_NUMBERS],
+    space: &mut [u64],
     out: &mut [u8],
     at: usize,
-) -> RecordAnswer
-    requires { ⌜ PlanFits (now table) plan × ((stateFits (tableIn (now table)) state ≡ true) × ((length (now numbers) ≡ 3328) × (at + 122304 ≤ length (now out)))) ⌝ }
-    ensures { λ r. ⌜ Reported r (now (out .entry)) at (now (out .exit)) (recordOnPrinted (tableIn (now (table .entry))) (now (bytes .entry)) state) ⌝ }
+) -> TextAnswer
+    requires { ⌜ RecordReady (now table) plan (now weights) (now state) (now space) (now out) at ⌝ }
+    ensures { λ r. ⌜ Reported r (now (out .entry)) at (now (out .exit)) (now (state .exit)) (recordOnPrinted (tableIn (now (table .entry))) (now (bytes .entry)) (now (state .entry))) ⌝ }
 {
-    let answer = engine::step_from(table, plan, bytes, state);
-    let next = answer.state;
-    let verdict = answer.verdict;
-    let told = match verdict {
-        Verdict::Accepted => answer_forecast(table, plan, next, &mut *numbers, &mut *out, at),
-        Verdict::Refused(refusal) => answer_refusal(refusal, next.steps, &mut *out, at),
-    };
-    RecordAnswer {
-        state: next,
-        end: told.end,
-        ended: told.ended,
+    let verdict = engine::step_from(table, plan, weights, bytes, &mut *state);
+    match verdict {
+        Verdict::Accepted => answer_forecast(
+            table,
+            plan,
+            weights,
+            &*state,
+            &mut *space,
+            &mut *out,
+            at,
+        ),
+        Verdict::Refused(refusal) => answer_refusal(refusal, state[1], &mut *out, at),
     }
 }
 
@@ -121,22 +114,24 @@ pub fn record_length(rest: &[u8]) -> usize
 pub fn answer_next(
     table: &[u8],
     plan: Plan,
+    weights: &[u64],
     rest: &[u8],
-    state: State,
-    numbers: &mut [u64],
+    state: &mut [u64; STATE_NUMBERS],
+    space: &mut [u64],
     out: &mut [u8],
     at: usize,
-) -> RecordAnswer
-    requires { ⌜ PlanFits (now table) plan × ((stateFits (tableIn (now table)) state ≡ true) × ((length (now numbers) ≡ 3328) × (at + 122304 ≤ length (now out)))) ⌝ }
-    ensures { λ r. ⌜ Reported r (now (out .entry)) at (now (out .exit)) (recordOnPrinted (tableIn (now (table .entry))) (recordBytes (now (rest .entry))) state) ⌝ }
+) -> TextAnswer
+    requires { ⌜ RecordReady (now table) plan (now weights) (now state) (now space) (now out) at ⌝ }
+    ensures { λ r. ⌜ Reported r (now (out .entry)) at (now (out .exit)) (now (state .exit)) (recordOnPrinted (tableIn (now (table .entry))) (recordBytes (now (rest .entry))) (now (state .entry))) ⌝ }
 {
-    let length = record_length(rest);
+    let size = record_length(rest);
     answer_record(
         table,
         plan,
-        &rest[..length],
-        state,
-        &mut *numbers,
+        weights,
+        &rest[..size],
+        &mut *state,
+        &mut *space,
         &mut *out,
         at,
     )

@@ -1,76 +1,75 @@
 -- Laws of the move of one element.
 use Prim.Native.Nat.{ℕ, _+_, _≤_, _<_}
 use mathlib.Core.List.{[], _∷_}
-use mathlib.Core.Path.{_≡_, refl, sym, _∙_}
+use mathlib.Core.Path.{_≡_, sym, _∙_}
 use Rattle.refusal.specs.Answers.{Answer, accepted, refused}
-use Rattle.units.specs.Units.{C, S}
+use Rattle.units.specs.Units.{C}
 use Rattle.units.specs.Ceiling.{underCeiling}
-use Rattle.units.proofs.CeilingLaws.{passes, stays, none-left, same-refused, same-accepted}
+use Rattle.units.proofs.CeilingLaws.{passes, stays, none-left, same-accepted, refused-append, accepted-append}
 use Rattle.weighting.specs.declared.Estimate.{Estimate}
-use Rattle.method.specs.declared.Figures.{Figures}
 use Rattle.weighting.specs.Estimates.{estimate}
-use Rattle.method.specs.Figures.{discharge, variance, figures}
 use Rattle.weighting.specs.Blend.{blended}
-use Rattle.method.specs.Routing.{routedDischarge, keptVariance, broughtVariance, routedVariance, routed, judgedVariance, routingNumbers, routingAnswer}
-use Rattle.weighting.proofs.BlendLaws.{value-le}
+use Rattle.method.specs.declared.Figures.{Figures}
+use Rattle.method.specs.Figures.{variance, figures}
+use Rattle.method.specs.Routing.{routedDischarge, oldVariancePart, inflowVariancePart, routedVariance, routed, varianceNumbers, routingNumbers, routingAnswer}
+use Rattle.routing.specs.Parts.{partMargins}
 
--- the answer of the variance's move
-abbrev pub varianceAnswer : ℕ → ℕ → Estimate → Estimate → Answer Estimate
-varianceAnswer H W inflow old = underCeiling (judgedVariance H W inflow old) (routedVariance H W inflow old)
+-- the answer of the variance's move: its parts judged, itself not yet
+abbrev pub partsAnswer : ℕ → ℕ → Estimate → Estimate → Answer Estimate
+partsAnswer H W inflow old = underCeiling (partMargins H inflow old) (routedVariance H W inflow old)
 
 module _ (H W : ℕ) (inflow old : Estimate) where
-  pub kept-passes : C < keptVariance H old .margin → varianceAnswer H W inflow old ≡ refused 16
-  unfolding judgedVariance
-  kept-passes h = passes _ _ _ h
+  pub old-part-passes : C < oldVariancePart H old .margin → partsAnswer H W inflow old ≡ refused 16
+  unfolding partMargins
+  old-part-passes h = passes _ _ _ h
 
-  module _ (kept : Estimate) (k : kept ≡ keptVariance H old) (kl : kept .margin ≤ C) where
-    pub brought-passes : C < broughtVariance H inflow .margin → varianceAnswer H W inflow old ≡ refused 16
-    unfolding judgedVariance
-    brought-passes h = rw (← k) (stays _ _ _ kl ∙ passes _ _ _ h)
+  pub inflow-part-passes :
+      oldVariancePart H old .margin ≤ C
+      → C < inflowVariancePart H inflow .margin
+      → partsAnswer H W inflow old ≡ refused 16
+  unfolding partMargins
+  inflow-part-passes l h = stays _ _ _ l ∙ passes _ _ _ h
 
--- the answer, once a, b and their blend are known
-module _
-    (H W : ℕ) (inflow old kept brought both : Estimate) (k : kept ≡ keptVariance H old)
-    (b : brought ≡ broughtVariance H inflow) (v : both ≡ blended H 3 kept brought) (kl : kept .margin ≤ C)
-    (bl : brought .margin ≤ C) where
-  left-over :
-      varianceAnswer H W inflow old
-      ≡ underCeiling (both .margin ∷ (both .value + W) ∷ []) (estimate (both .value + W) (both .margin))
-  unfolding judgedVariance routedVariance
-  left-over = rw (← k, ← b, ← v) (stays _ _ _ kl ∙ stays _ _ _ bl)
-
-  pub both-passes : C < both .margin → varianceAnswer H W inflow old ≡ refused 16
-  both-passes h = left-over ∙ passes _ _ _ h
-
-  pub sum-passes : both .margin ≤ C → C < both .value + W → varianceAnswer H W inflow old ≡ refused 16
-  sum-passes l h = left-over ∙ (stays _ _ _ l ∙ passes _ _ _ h)
-
-  pub variance-accepted :
-      both .margin ≤ C
-      → both .value + W ≤ C
-      → varianceAnswer H W inflow old ≡ accepted (estimate (both .value + W) (both .margin))
-  variance-accepted l h = left-over ∙ (stays _ _ _ l ∙ (stays _ _ _ h ∙ none-left _))
+  pub parts-accepted :
+      (a b v : Estimate)
+      → (oldVariancePart H old .margin ≤ C) × (a ≡ oldVariancePart H old)
+      → (inflowVariancePart H inflow .margin ≤ C) × (b ≡ inflowVariancePart H inflow)
+      → v ≡ blended H 3 a b
+      → accepted (estimate (v .value + W) (v .margin)) ≡ partsAnswer H W inflow old
+  unfolding partMargins routedVariance
+  parts-accepted a b v old-part inflow-part both =
+      rw (both, old-part .1, inflow-part .1) (sym (stays _ _ _ (old-part .0) ∙ (stays _ _ _ (inflow-part .0) ∙ none-left _)))
 
 -- the answer of the whole move, once the discharge is known
-module _ (H W : ℕ) (inflow old : Figures) where
-  pub discharge-passes :
-      routedDischarge H inflow old .value ≤ C
-      → C < routedDischarge H inflow old .margin
-      → routingAnswer H W inflow old ≡ refused 16
+module _ (H W : ℕ) (inflow old : Figures) (q : Estimate) (same : q ≡ routedDischarge H inflow old) where
+  pub discharge-passes : C < q .value → refused 16 ≡ routingAnswer H W inflow old
   unfolding routingAnswer routingNumbers
-  discharge-passes l h = stays _ _ _ l ∙ passes _ _ _ h
+  discharge-passes h = rw (← same) (sym (passes _ _ _ h))
 
-  module _ (l : routedDischarge H inflow old .value ≤ C) (m : routedDischarge H inflow old .margin ≤ C) where
-    pub variance-passes :
-        {k : ℕ} → refused k ≡ varianceAnswer H W (variance inflow) (variance old) → routingAnswer H W inflow old ≡ refused 16
-    unfolding routingAnswer routingNumbers
-    variance-passes e = stays _ _ _ l ∙ (stays _ _ _ m ∙ same-refused _ _ _ e)
+  pub discharge-margin-passes : q .value ≤ C → C < q .margin → refused 16 ≡ routingAnswer H W inflow old
+  unfolding routingAnswer routingNumbers
+  discharge-margin-passes l h = rw (← same) (sym (stays _ _ _ l ∙ passes _ _ _ h))
 
-    pub routing-accepted :
-        {v : Estimate}
-        → accepted v ≡ varianceAnswer H W (variance inflow) (variance old)
-        → routingAnswer H W inflow old ≡ accepted (figures (routedDischarge H inflow old) v)
-    unfolding routingAnswer routingNumbers routed
-    routing-accepted e =
-        let s = same-accepted _ (routed H W inflow old) _ e in
-        rw (s .0) (stays _ _ _ l ∙ (stays _ _ _ m ∙ s .1))
+  module _ (l : q .value ≤ C) (m : q .margin ≤ C) where
+    pub parts-refuse :
+        {k : ℕ} → refused k ≡ partsAnswer H W (variance inflow) (variance old) → refused 16 ≡ routingAnswer H W inflow old
+    unfolding routingAnswer routingNumbers varianceNumbers partMargins
+    parts-refuse e =
+        rw (← same) (sym (stays _ _ _ l ∙ (stays _ _ _ m ∙ refused-append _ _ _ _ e)))
+
+    -- and the variance, its parts judged
+    module _ (v : Estimate) (e : accepted v ≡ partsAnswer H W (variance inflow) (variance old)) where
+      left-over : underCeiling (v .margin ∷ v .value ∷ []) (figures q v) ≡ routingAnswer H W inflow old
+      unfolding routingAnswer routingNumbers varianceNumbers routed partMargins
+      left-over =
+          let s = same-accepted _ (routed H W inflow old) _ e in
+          rw (s .0, ← same) (sym (stays _ _ _ l ∙ (stays _ _ _ m ∙ accepted-append _ _ _ _ e)))
+
+      pub variance-margin-passes : C < v .margin → refused 16 ≡ routingAnswer H W inflow old
+      variance-margin-passes h = sym (passes _ _ _ h) ∙ left-over
+
+      pub variance-passes : v .margin ≤ C → C < v .value → refused 16 ≡ routingAnswer H W inflow old
+      variance-passes n h = sym (stays _ _ _ n ∙ passes _ _ _ h) ∙ left-over
+
+      pub routing-accepted : v .margin ≤ C → v .value ≤ C → accepted (figures q v) ≡ routingAnswer H W inflow old
+      routing-accepted n h = sym (stays _ _ _ n ∙ (stays _ _ _ h ∙ none-left _)) ∙ left-over

@@ -4,43 +4,40 @@ use Rattle.refusal.specs.Refusals.{number}
 use Rattle.refusal.specs.Answers.{Answer, accepted, refused}
 use Rattle.refusal.specs.declared.Refusal.{Refusal}
 use Rattle.refusal.proofs.RuleLaws.{not-both}
-use Rattle.table.specs.Verdicts.{verdictAnswer}
-use Rattle.table.specs.declared.Verdict.{Verdict}
-use Rattle.table.specs.declared.Verdict.the-variants.{Accepted, Refused}
-use Rattle.state.specs.declared.State.{State}
-use Rattle.state.specs.declared.StateAnswer.{StateAnswer}
+use Rattle.refusal.specs.Verdicts.{verdictAnswer}
+use Rattle.refusal.specs.declared.Verdict.{Verdict}
+use Rattle.refusal.specs.declared.Verdict.the-variants.{Accepted, Refused}
+use Rattle.state.specs.States.{State}
 use Rattle.state.specs.Answers.{verdict, stateAfter, Answered}
 
--- a refusal hands back the state as it was
+-- a refusal leaves the state as it was
 pub answered-refused :
-    {v : Verdict} {k : Refusal} {answer : Answer State} {before : State}
+    {v : Verdict} {k : Refusal} {answer : Answer State} {before after : State}
     → v ≡ Refused k
     → answer ≡ refused (number k)
-    → Answered (record { verdict = v; state = before }) answer before
+    → after ≡ before
+    → Answered v after answer before
 unfolding verdict stateAfter
-answered-refused v e = record { verdict = rw (v, e); state = rw e }
+answered-refused v e s = record { verdict = rw (v, e); state = rw (e, s) }
 
 pub answered-accepted :
-    {v : Verdict} {answer : Answer State} {before next : State}
+    {v : Verdict} {answer : Answer State} {before next after : State}
     → v ≡ Accepted
     → answer ≡ accepted next
-    → Answered (record { verdict = v; state = next }) answer before
+    → after ≡ next
+    → Answered v after answer before
 unfolding verdict stateAfter
-answered-accepted v e = record { verdict = rw (v, e); state = rw e }
+answered-accepted v e s = record { verdict = rw (v, e); state = rw (e, s) }
 
 -- an entry's answer, read backwards: it was accepted
 pub answered-next :
-    (r : StateAnswer) (answer : Answer State) (before : State)
-    → Answered r answer before
-    → r .verdict ≡ Accepted
-    → answer ≡ accepted (r .state)
+    (v : Verdict) (after : State) (answer : Answer State) (before : State)
+    → Answered v after answer before
+    → v ≡ Accepted
+    → answer ≡ accepted after
 unfolding verdict stateAfter
-answered-next r answer before h e = go answer (h .verdict) (h .state)
+answered-next v after answer before h e = go answer (h .verdict) (h .state)
   where
-    go :
-        (answer : Answer State)
-        → verdictAnswer (r .verdict) ≡ verdict answer
-        → r .state ≡ stateAfter answer before
-        → answer ≡ accepted (r .state)
-    go (accepted next) v s = ap accepted (sym s)
-    go (refused n) v s = absurd (not-both (ap verdictAnswer e) v)
+    go : (answer : Answer State) → verdictAnswer v ≡ verdict answer → after ≡ stateAfter answer before → answer ≡ accepted after
+    go (accepted next) u s = ap accepted (sym s)
+    go (refused n) u s = absurd (not-both (ap verdictAnswer e) u)

@@ -1,4 +1,5 @@
 pub mod States
 pub mod Rules
+pub mod Bounds
 pub mod Start
 pub mod Answers

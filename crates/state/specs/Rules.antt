@@ -1,15 +1,14 @@
 -- Document 01, Numbers for no, 8 and 9.
 use Prim.Native.Nat.{ℕ}
-use mathlib.Core.Bool.{Bool, true, not, cond, _&&_}
+use mathlib.Core.Bool.{Bool, false, not, _&&_}
 use lib.Dec.{leb, eqb}
 use Rattle.units.specs.Units.{C}
 use Rattle.method.specs.declared.Figures.{Figures}
 use Rattle.fields.specs.Ranges.{allBelow}
+use Rattle.elements.specs.Kinds.{byKind}
 use Rattle.table.specs.Tables.{TableValues}
 use Rattle.state.specs.declared.Rains.{Rains}
-use Rattle.state.specs.declared.ElementState.{ElementState}
-use Rattle.state.specs.declared.State.{State}
-use Rattle.state.specs.States.{placeOf}
+use Rattle.state.specs.States.{State, ElementState, elementsOf, stepsOf, placeOf}
 
 -- "a number above C"
 unfoldable pub figuresFit : Figures → Bool
@@ -21,16 +20,17 @@ figuresFit f =
 unfoldable pub rainsFit : Rains → Bool
 rainsFit r = (leb (r .first) 3000 && leb (r .second) 3000) && leb (r .third) 3000
 
+-- "A reach's rain places, if kept, are neither read nor changed."
 unfoldable pub placeFits : ℕ → ElementState → Bool
-placeFits kind p = figuresFit (p .figures) && cond (eqb kind 1) (rainsFit (p .rains)) true
+placeFits kind p = byKind kind (figuresFit (p .figures) && rainsFit (p .rains)) (figuresFit (p .figures)) false
 
 -- 8: "The state has another N, a step count above 10,000, or, in its first N elements, a number above C or a basin's rain
 -- above 3,000."
 unfoldable pub stateFits : TableValues → State → Bool
 stateFits t s =
-    (eqb (s .elements) (t .elements) && leb (s .steps) 10000)
+    (eqb (elementsOf s) (t .elements) && leb (stepsOf s) 10000)
     && allBelow (λ i. placeFits (t .element i .kind) (placeOf s i)) (t .elements)
 
 -- 9: "The state's step count is 10,000 already."
 unfoldable pub stepsLeft : State → Bool
-stepsLeft s = not (eqb (s .steps) 10000)
+stepsLeft s = not (eqb (stepsOf s) 10000)

@@ -1,38 +1,75 @@
-// The state of a river, what rule 8 asks of each of its places, and rule 9.
+// The state of a river as numbers that the caller lends: N, the step count, then for each place four figures and three rains. What rule
+// 8 asks of a place, and rule 9.
 ghost use mathlib.Core.Path.{_≡_};
+ghost use Prim.Native.Nat.{_<_};
+ghost use Rattle.sizes.specs.Sizes.{mostElements};
+ghost use Rattle.state.specs.States.{stepsOf, figuresOf, rainsOf, placeOf, putFigures, putRains};
 ghost use Rattle.state.specs.Rules.{figuresFit, rainsFit, placeFits, stepsLeft};
 use method::Figures;
-use table::Verdict;
+use sizes::PLACE_NUMBERS;
+use sizes::STATE_NUMBERS;
 use units::Discharge;
 use units::Variance;
 
 // A basin's last three rains, the latest first.
-#[repr(C)]
 pub struct Rains {
     pub first: u64,
     pub second: u64,
     pub third: u64,
 }
 
-// What the state keeps of one element.
-#[repr(C)]
-pub struct ElementState {
-    pub figures: Figures,
-    pub rains: Rains,
+// The figures of element i, counted from 0.
+pub fn figures_of(state: &[u64; STATE_NUMBERS], i: usize) -> Figures
+    requires { ⌜ i < mostElements ⌝ }
+    ensures { λ r. ⌜ r ≡ figuresOf (now (state .entry)) i ⌝ }
+{
+    let at = PLACE_NUMBERS * i + 2;
+    Figures {
+        discharge: Discharge(state[at]),
+        discharge_margin: Discharge(state[at + 1]),
+        variance: Variance(state[at + 2]),
+        variance_margin: Variance(state[at + 3]),
+    }
 }
 
-// The river's state: its first N places are in use.
-#[repr(C)]
-pub struct State {
-    pub elements: usize,
-    pub steps: u64,
-    pub element: [ElementState; 64],
+// The rains of element i.
+pub fn rains_of(state: &[u64; STATE_NUMBERS], i: usize) -> Rains
+    requires { ⌜ i < mostElements ⌝ }
+    ensures { λ r. ⌜ r ≡ rainsOf (now (state .entry)) i ⌝ }
+{
+    let at = PLACE_NUMBERS * i + 2;
+    Rains {
+        first: state[at + 4],
+        second: state[at + 5],
+        third: state[at + 6],
+    }
 }
 
-// The state after a call, as it was before where the call is refused. (The larger field first: the other order costs copies.)
-pub struct StateAnswer {
-    pub state: State,
-    pub verdict: Verdict,
+// Other figures of element i.
+pub fn put_figures(state: &mut [u64; STATE_NUMBERS], i: usize, f: Figures)
+    requires { ⌜ i < mostElements ⌝ }
+    ensures { λ _. ⌜ now (state .exit) ≡ putFigures (now (state .entry)) i f ⌝ }
+{
+    let at = PLACE_NUMBERS * i + 2;
+    let q = f.discharge;
+    let e = f.discharge_margin;
+    let v = f.variance;
+    let d = f.variance_margin;
+    state[at] = q.0;
+    state[at + 1] = e.0;
+    state[at + 2] = v.0;
+    state[at + 3] = d.0;
+}
+
+// Other rains of element i.
+pub fn put_rains(state: &mut [u64; STATE_NUMBERS], i: usize, r: Rains)
+    requires { ⌜ i < mostElements ⌝ }
+    ensures { λ _. ⌜ now (state .exit) ≡ putRains (now (state .entry)) i r ⌝ }
+{
+    let at = PLACE_NUMBERS * i + 2;
+    state[at + 4] = r.first;
+    state[at + 5] = r.second;
+    state[at + 6] = r.third;
 }
 
 fn figures_fit(f: Figures) -> bool
@@ -54,21 +91,22 @@ fn rains_fit(r: Rains) -> bool
     (r.first <= 3_000) & (r.second <= 3_000) & (r.third <= 3_000)
 }
 
-// Rule 8 on one element: the rains of a basin alone are read.
-pub fn place_fits(kind: u64, place: ElementState) -> bool
-    ensures { λ r. ⌜ r ≡ placeFits kind place ⌝ }
+// Rule 8 on the place of element i: the rains of a basin alone are read.
+pub fn place_fits(state: &[u64; STATE_NUMBERS], i: usize, kind: u64) -> bool
+    requires { ⌜ i < mostElements ⌝ }
+    ensures { λ r. ⌜ r ≡ placeFits kind (placeOf (now (state .entry)) i) ⌝ }
 {
-    let figures = place.figures;
-    let rains = place.rains;
+    let figures = figures_of(state, i);
     match kind {
-        1 => figures_fit(figures) & rains_fit(rains),
-        _ => figures_fit(figures),
+        elements::BASIN => figures_fit(figures) & rains_fit(rains_of(state, i)),
+        elements::REACH => figures_fit(figures),
+        _ => false,
     }
 }
 
 // Rule 9.
-pub fn steps_left(state: State) -> bool
-    ensures { λ r. ⌜ r ≡ stepsLeft state ⌝ }
+pub fn steps_left(state: &[u64; STATE_NUMBERS]) -> bool
+    ensures { λ r. ⌜ r ≡ stepsLeft (now (state .entry)) ⌝ }
 {
-    state.steps != 10_000
+    state[1] != 10_000
 }

@@ -6,25 +6,25 @@ ghost use Rattle.table.specs.InUse.{tableIn};
 ghost use Rattle.state.specs.States.{placeOf};
 ghost use Rattle.state.specs.Rules.{placeFits, stateFits};
 use elements::kind_at;
-use state::State;
+use sizes::STATE_NUMBERS;
 use state::place_fits;
 
 // The places of the n elements of an accepted table.
-fn places_fit(table: &[u8], n: usize, state: State) -> bool
+fn places_fit(table: &[u8], n: usize, state: &[u64; STATE_NUMBERS]) -> bool
     requires { ⌜ AcceptedTable (now table) × (n ≡ tableIn (now table) .elements) ⌝ }
-    ensures { λ r. ⌜ r ≡ allBelow (λ i. placeFits (tableIn (now (table .entry)) .element i .kind) (placeOf state i)) (tableIn (now (table .entry)) .elements) ⌝ }
+    ensures { λ r. ⌜ r ≡ allBelow (λ i. placeFits (tableIn (now (table .entry)) .element i .kind) (placeOf (now (state .entry)) i)) (tableIn (now (table .entry)) .elements) ⌝ }
 {
     let mut fit = true;
     for i in 0..n {
-        fit = fit & place_fits(kind_at(table, i), state.element[i]);
+        fit = fit & place_fits(state, i, kind_at(table, i));
     }
     fit
 }
 
 // Rule 8, by the bytes of an accepted table of n elements.
-pub fn state_fits(table: &[u8], n: usize, state: State) -> bool
+pub fn state_fits(table: &[u8], n: usize, state: &[u64; STATE_NUMBERS]) -> bool
     requires { ⌜ AcceptedTable (now table) × (n ≡ tableIn (now table) .elements) ⌝ }
-    ensures { λ r. ⌜ r ≡ stateFits (tableIn (now (table .entry))) state ⌝ }
+    ensures { λ r. ⌜ r ≡ stateFits (tableIn (now (table .entry))) (now (state .entry)) ⌝ }
 {
-    (state.elements == n) & (state.steps <= 10_000) & places_fit(table, n, state)
+    (state[0] == n as u64) & (state[1] <= 10_000) & places_fit(table, n, state)
 }

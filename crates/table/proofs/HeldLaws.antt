@@ -8,6 +8,7 @@ use borrow.Author.Tests.{leb-true, eqb-true}
 use native.Mathlib.Omega.{arith}
 use lib.Dec.{leb, eqb}
 use lib.ListN.{length}
+use Rattle.sizes.specs.Sizes.{mostElements, mostGauges}
 use Rattle.refusal.specs.Refusals.{number}
 use Rattle.refusal.specs.Answers.{accepted, refused}
 use Rattle.refusal.specs.declared.Refusal.{Refusal}
@@ -15,16 +16,17 @@ use Rattle.fields.specs.Bytes.{number32}
 use Rattle.fields.proofs.RangeLaws.{both}
 use Rattle.elements.specs.Elements.{elementAt}
 use Rattle.elements.specs.Bounds.{ElementBounds}
+use Rattle.gauges.specs.Gauges.{gaugeAt}
 use Rattle.table.specs.declared.Counts.{Counts}
 use Rattle.table.specs.declared.TableAnswer.{TableAnswer}
-use Rattle.table.specs.declared.Verdict.the-variants.{Accepted, Refused}
-use Rattle.table.specs.Verdicts.{verdictAnswer}
+use Rattle.refusal.specs.declared.Verdict.the-variants.{Accepted, Refused}
+use Rattle.refusal.specs.Verdicts.{verdictAnswer}
 use Rattle.table.specs.Tables.{tableOf}
 use Rattle.table.specs.Rules.{lengthFits, sizeFits, tableRules}
 use Rattle.table.specs.Decoded.{CountsHeld, TableRead}
-use Rattle.table.specs.Bounds.{AcceptedTable}
+use Rattle.table.specs.Bounds.{AcceptedTable, CountedTable}
 use Rattle.table.specs.InUse.{inUse, tableIn}
-use Rattle.table.proofs.InUseLaws.{element-read, bounds-in-use}
+use Rattle.table.proofs.InUseLaws.{element-read, gauge-read, bounds-in-use}
 use Rattle.table.proofs.TableLaws.{rules-kept, table-bounds}
 
 -- rules 1 and 4 together: the bytes are those of N elements and M gauges
@@ -62,12 +64,20 @@ module _ (bytes : List ℕ) (t : AcceptedTable bytes) where
   pub gauge-there :
       {g : ℕ}
       → g < tableIn bytes .gauges
-      → ((tableIn bytes .elements ≤ 64) × (g ≤ 64)) × (26 * tableIn bytes .elements + 46 * g + 56 ≤ length bytes)
+      → ((tableIn bytes .elements ≤ mostElements) × (g ≤ mostGauges)) × (26 * tableIn bytes .elements + 46 * g + 56 ≤ length bytes)
   gauge-there l = ((t .bounds .elementsMost, omega (arith, t .bounds .gaugesMost)), omega (arith, t .whole))
 
   pub element-bounds :
       {i : ℕ} → i < tableIn bytes .elements → ElementBounds (tableIn bytes .step) (tableIn bytes .elements) i (elementAt bytes i)
   element-bounds {i} l = rw (element-read bytes i l) at (t .bounds .element i l)
+
+-- the gauges of a table whose counts are known
+module _ (bytes : List ℕ) {n m : ℕ} (t : CountedTable bytes n m) where
+  pub gauge-held : (g : ℕ) → g < m → gaugeAt bytes n g ≡ tableIn bytes .gauge g
+  gauge-held g l = rw (t .elements) (sym (gauge-read bytes g (omega (arith, t .gauges))))
+
+  pub gauge-in-use : (g : ℕ) → g < m → ((n ≤ mostElements) × (g ≤ mostGauges)) × (26 * n + 46 * g + 56 ≤ length bytes)
+  gauge-in-use g l = rw (t .elements) (gauge-there bytes (t .table) (omega (arith, t .gauges)))
 
 -- what an accepted table gives
 pub record TableKnown (bytes : List ℕ) (read : Counts) : Type 0 where

@@ -1,14 +1,13 @@
 -- Laws of the places in use.
-use Prim.Native.Nat.{ℕ, _≤_, _<_}
+use Prim.Native.Nat.{ℕ, _+_, _<_}
 use mathlib.Core.List.{List}
 use mathlib.Core.Bool.{Bool, true, false, cond}
-use mathlib.Core.Path.{_≡_, refl, sym, fun-ext}
+use mathlib.Core.Path.{_≡_, refl, fun-ext}
 use borrow.Author.Tests.{lt-ltb, ltb-true}
+use native.Mathlib.Omega.{arith}
 use lib.Dec.{ltb}
 use Rattle.elements.specs.Elements.{elementAt, noElement}
-use Rattle.elements.specs.Bounds.{ElementBounds}
 use Rattle.gauges.specs.Gauges.{gaugeAt, noGauge}
-use Rattle.gauges.specs.Bounds.{GaugeBounds}
 use Rattle.table.specs.Tables.{TableValues, tableOf}
 use Rattle.table.specs.Bounds.{TableBounds}
 use Rattle.table.specs.InUse.{below, inUse, tableIn}
@@ -50,4 +49,8 @@ bounds-in-use t b =
       gaugesMost = b .gaugesMost;
       element = λ i l. rw (below-used _ noElement (t .element) i l) (b .element i l);
       gauge = λ g l. rw (below-used _ noGauge (t .gauge) g l) (b .gauge g l);
+      rising =
+          λ g l.
+          rw (below-used (t .gauges) noGauge (t .gauge) g (omega arith), below-used (t .gauges) noGauge (t .gauge) (g + 1) l)
+          (b .rising g l);
     }

@@ -1,10 +1,11 @@
 -- Laws of rules 1 to 7: what follows them decides where they accept, and what callers may then rely on.
 use Prim.{Unit}
-use Prim.Native.Nat.{ℕ, _≤_}
+use Prim.Native.Nat.{ℕ, _+_, _≤_}
 use mathlib.Core.Bool.{Bool, true, false, not}
 use mathlib.Core.List.{List}
-use mathlib.Core.Path.{_≡_, refl, sym, _∙_}
+use mathlib.Core.Path.{_≡_, sym, _∙_}
 use borrow.Author.Tests.{not-true, not-false}
+use Rattle.sizes.specs.Sizes.{mostElements, mostLeads, mostGauges}
 use Rattle.refusal.proofs.RuleLaws.{rule-then, rule-kept}
 use Rattle.refusal.specs.Answers.{Answer, accepted, refused, andThen, rule}
 use Rattle.fields.specs.Bytes.{byteAt, number16}
@@ -15,7 +16,7 @@ use Rattle.elements.specs.Rules.{elementFits, downFits}
 use Rattle.elements.proofs.ElementLaws.{element-bounds}
 use Rattle.gauges.specs.Gauges.{gaugeAt}
 use Rattle.gauges.specs.Rules.{gaugeFits}
-use Rattle.gauges.proofs.GaugeLaws.{gauge-bounds}
+use Rattle.gauges.proofs.GaugeLaws.{gauge-bounds, gauge-rises}
 use Rattle.table.specs.Tables.{TableValues, tableOf}
 use Rattle.table.specs.Rules.{lengthFits, versionFits, countsFit, sizeFits, elementsFit, downsFit, gaugesFit, tableRules}
 use Rattle.table.specs.Bounds.{TableBounds}
@@ -75,17 +76,17 @@ header-left bytes rest h = rw (h .length, h .version, h .counts, h .size)
 pub record CountsBounds (t : TableValues) : Type 0 where
   pub stepLeast : 1 ≤ t .step
   pub leadsLeast : 1 ≤ t .leads
-  pub leadsMost : t .leads ≤ 12
+  pub leadsMost : t .leads ≤ mostLeads
   pub elementsLeast : 1 ≤ t .elements
-  pub elementsMost : t .elements ≤ 64
-  pub gaugesMost : t .gauges ≤ 16
+  pub elementsMost : t .elements ≤ mostElements
+  pub gaugesMost : t .gauges ≤ mostGauges
 
 pub counts-bounds : (t : TableValues) → countsFit t ≡ true → CountsBounds t
 unfolding countsFit
 counts-bounds t h =
-    let leads = inRange (t .leads) 1 12 in
-    let elements = inRange (t .elements) 1 64 in
-    let k = all-four (inRange (t .step) 1 1440) leads elements (inRange (t .gauges) 0 16) h in
+    let leads = inRange (t .leads) 1 mostLeads in
+    let elements = inRange (t .elements) 1 mostElements in
+    let k = all-four (inRange (t .step) 1 1440) leads elements (inRange (t .gauges) 0 mostGauges) h in
     record {
       stepLeast = range-bounds _ _ _ (k .0) .0;
       leadsLeast = range-bounds _ _ _ (k .1 .0) .0;
@@ -109,6 +110,7 @@ table-bounds bytes h =
       gaugesMost = n .gaugesMost;
       element = λ i l. element-bounds _ (t .element) i (t .step) (all-at _ _ i l (k .elements)) (all-at _ _ i l (k .downs));
       gauge = λ g l. gauge-bounds _ (t .gauge) g (all-at _ _ g l (k .gauges));
+      rising = λ g l. gauge-rises _ (t .gauge) g (all-at _ _ (g + 1) l (k .gauges));
     }
 
 -- the fields of the header that the code reads

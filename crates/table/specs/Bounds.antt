@@ -1,7 +1,9 @@
 -- What callers may rely on once rules 1 to 7 accept a table.
 use Prim.Native.Nat.{ℕ, _+_, _*_, _≤_, _<_}
 use mathlib.Core.List.{List}
+use mathlib.Core.Path.{_≡_}
 use lib.ListN.{length}
+use Rattle.sizes.specs.Sizes.{mostElements, mostLeads, mostGauges}
 use Rattle.elements.specs.Bounds.{ElementBounds}
 use Rattle.gauges.specs.Bounds.{GaugeBounds}
 use Rattle.table.specs.Tables.{TableValues}
@@ -10,14 +12,21 @@ use Rattle.table.specs.InUse.{tableIn}
 pub record TableBounds (t : TableValues) : Type 0 where
   pub stepLeast : 1 ≤ t .step
   pub leadsLeast : 1 ≤ t .leads
-  pub leadsMost : t .leads ≤ 12
+  pub leadsMost : t .leads ≤ mostLeads
   pub elementsLeast : 1 ≤ t .elements
-  pub elementsMost : t .elements ≤ 64
-  pub gaugesMost : t .gauges ≤ 16
+  pub elementsMost : t .elements ≤ mostElements
+  pub gaugesMost : t .gauges ≤ mostGauges
   pub element : (i : ℕ) → i < t .elements → ElementBounds (t .step) (t .elements) i (t .element i)
   pub gauge : (g : ℕ) → g < t .gauges → GaugeBounds (t .elements) (t .gauge g)
+  pub rising : (g : ℕ) → g + 1 < t .gauges → t .gauge g .element < t .gauge (g + 1) .element
 
 -- the bytes of an accepted table: its values in their ranges, and all its elements and gauges there
 pub record AcceptedTable (bytes : List ℕ) : Type 0 where
   pub bounds : TableBounds (tableIn bytes)
   pub whole : 26 * tableIn bytes .elements + 46 * tableIn bytes .gauges + 10 ≤ length bytes
+
+-- how many elements and gauges an accepted table has
+pub record CountedTable (bytes : List ℕ) (n m : ℕ) : Type 0 where
+  pub table : AcceptedTable bytes
+  pub elements : n ≡ tableIn bytes .elements
+  pub gauges : m ≡ tableIn bytes .gauges

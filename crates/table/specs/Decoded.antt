@@ -6,7 +6,7 @@ use mathlib.Core.Path.{_≡_}
 use Rattle.refusal.specs.Answers.{accepted}
 use Rattle.table.specs.declared.Counts.{Counts}
 use Rattle.table.specs.declared.TableAnswer.{TableAnswer}
-use Rattle.table.specs.Verdicts.{verdictAnswer}
+use Rattle.refusal.specs.Verdicts.{verdictAnswer}
 use Rattle.table.specs.Tables.{TableValues, tableOf}
 use Rattle.table.specs.Rules.{tableRules}
 

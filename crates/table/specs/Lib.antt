@@ -1,4 +1,3 @@
-pub mod Verdicts
 pub mod Tables
 pub mod Rules
 pub mod Decoded

@@ -4,6 +4,7 @@ use mathlib.Core.Bool.{Bool, _&&_}
 use mathlib.Core.List.{List}
 use lib.Dec.{leb, eqb}
 use lib.ListN.{length}
+use Rattle.sizes.specs.Sizes.{mostElements, mostLeads, mostGauges}
 use Rattle.refusal.specs.Answers.{Answer, rule}
 use Rattle.fields.specs.Bytes.{byteAt, number32}
 use Rattle.fields.specs.Ranges.{inRange, allBelow}
@@ -22,7 +23,8 @@ versionFits bytes = eqb (byteAt bytes 4) 1
 -- 3: "T, L, N or M is out of range.": "T 1 to 1,440; L 1 to 12; N 1 to 64; M 0 to 16"
 unfoldable pub countsFit : TableValues → Bool
 countsFit t =
-    ((inRange (t .step) 1 1440 && inRange (t .leads) 1 12) && inRange (t .elements) 1 64) && inRange (t .gauges) 0 16
+    ((inRange (t .step) 1 1440 && inRange (t .leads) 1 mostLeads) && inRange (t .elements) 1 mostElements)
+    && inRange (t .gauges) 0 mostGauges
 
 -- 4: "The length field is not 6 + 26 N + 46 M."
 unfoldable pub sizeFits : List ℕ → TableValues → Bool

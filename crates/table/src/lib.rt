@@ -9,13 +9,10 @@ use fields::bytes::whole16;
 use fields::bytes::whole32;
 use fields::bytes::wide;
 use fields::range::in_range;
-use refusal::Refusal;
-
-// Whether a call's input is accepted.
-pub enum Verdict {
-    Accepted,
-    Refused(Refusal),
-}
+use refusal::Verdict;
+use sizes::MOST_ELEMENTS;
+use sizes::MOST_GAUGES;
+use sizes::MOST_LEADS;
 
 // The counts of a table: T in minutes, L, N and M.
 pub struct Counts {
@@ -56,9 +53,9 @@ pub fn counts_fit(table: &[u8]) -> bool
     ensures { λ r. ⌜ r ≡ countsFit (tableOf (now (table .entry))) ⌝ }
 {
     in_range(whole16(table, 5), 1, 1_440)
-        & in_range(wide(table[7]), 1, 12)
-        & in_range(wide(table[8]), 1, 64)
-        & in_range(wide(table[9]), 0, 16)
+        & in_range(wide(table[7]), 1, MOST_LEADS as u64)
+        & in_range(wide(table[8]), 1, MOST_ELEMENTS as u64)
+        & in_range(wide(table[9]), 0, MOST_GAUGES as u64)
 }
 
 // Rule 4: the length field is that of N elements and M gauges.

@@ -1,4 +1,4 @@
--- The digits of 0 to 99, two to a word of 16 bits: the first digit is the lower byte.
+-- Serves the code: the digits of 0 to 99, two to a word of 16 bits: the first digit is the lower byte.
 use Prim.Native.Nat.{ℕ, zero, suc, _+_, _*_, _/_, _%_}
 use mathlib.Core.List.{List, [], _∷_, _++_}
 

@@ -1,4 +1,4 @@
--- Bytes put into lent space at a place.
+-- Serves the code: bytes put into lent space at a place.
 use Prim.Native.Nat.{ℕ, _+_}
 use mathlib.Core.List.{List, _++_}
 use mathlib.Core.Path.{_≡_}

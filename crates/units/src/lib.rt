@@ -1,3 +1,4 @@
+// Discharge, variance and stage as types of their own, and the ceiling that their constructors hold them under.
 ghost use mathlib.Core.Path.{_≡_};
 ghost use mathlib.Core.List.{[], _∷_};
 ghost use Rattle.units.specs.Units.{grains, thousandths};

@@ -25,15 +25,6 @@ unfolding weightedMean
 mean-le w x y b h l m =
     div-le-of-le-mul S {m = w * x + (S - w) * y} {n = b} (weighted-sum-le w x y b h l m)
 
--- the blend's value under C
-pub value-le : (w g : ℕ) (x y : Estimate) → w ≤ S → x .value ≤ C → y .value ≤ C → blended w g x y .value ≤ C
-unfolding blended
-value-le w g x y = mean-le w (x .value) (y .value) C
-
--- the rest of a weight is a weight
-pub rest-most : (w : ℕ) → S - w ≤ S
-rest-most w = omega arith
-
 -- the products that the code makes
 pub product-le : (w x : ℕ) → w ≤ S → x ≤ C → w * x ≤ 4_000_000_000_000_000_000
 product-le w x h l = mul-le-mul h l

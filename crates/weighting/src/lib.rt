@@ -1,3 +1,4 @@
+// A number with its margin; the series weight of an element, and the blend by a weight.
 use refusal::Refusal;
 
 pub mod weight; // weight.rt: the series weight H of an element
@@ -12,6 +13,7 @@ pub struct Estimate {
     pub margin: u64,
 }
 
+// A number with its margin, or the refusal of one.
 pub enum EstimateAnswer {
     Accepted(Estimate),
     Refused(Refusal),

@@ -1,3 +1,4 @@
+// The series weight H of an element.
 ghost use mathlib.Core.Path.{_≡_};
 ghost use Prim.Native.Nat.{_+_, _*_, _/_, _≤_, _<_};
 ghost use Rattle.units.specs.Units.{S};

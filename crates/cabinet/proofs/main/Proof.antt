@@ -11,8 +11,8 @@ table-buffer-requires c κs = search needs
 input-buffer-requires : tie.Need-input-buffer-requires
 input-buffer-requires c κs = search needs
 
-number-buffer-requires : tie.Need-number-buffer-requires
-number-buffer-requires c κs = search needs
+forecast-space-requires : tie.Need-forecast-space-requires
+forecast-space-requires c κs = search needs
 
 text-buffer-requires : tie.Need-text-buffer-requires
 text-buffer-requires c κs = search needs
@@ -29,8 +29,7 @@ array-share-prefix-table c = search needs
 slice-aggregate-run : tie.Need-slice-aggregate-run
 slice-aggregate-run c =
     let r = c .before .before in
-    let within = r .read-table .ensures in
-    front _ _ (omega (arith, within, r .read-table .kept .0, r .before .before .before .before .before .table-buffer .ensures))
+    front _ _ (omega (arith, r .read-table .ensures, r .read-table .kept .0, r .before .before .before .before .before .table-buffer .ensures))
 
 slice-aggregate-run-2 : tie.Need-slice-aggregate-run-2
 slice-aggregate-run-2 c = search needs
@@ -53,7 +52,7 @@ main-spec =
     (tie.spec
     table-buffer-requires
     input-buffer-requires
-    number-buffer-requires
+    forecast-space-requires
     text-buffer-requires
     slice-aggregate-read-table
     read-table-requires

@@ -1,27 +1,46 @@
 -- `run` meets its contract.
-use mathlib.Core.Path.{sym}
 use borrow.Author.Needs.{needs}
+use Prim.Native.Nat.{ℕ}
+use mathlib.Core.Path.{sym}
+use native.Mathlib.Omega.{arith}
+use lib.ListN.{length-replicate}
 use lib.Seq.{length-take-le}
-use Rattle.opening.proofs.OpensLaws.{opened-fits}
+use Rattle.sizes.specs.Sizes.{stateNumbers}
+use Rattle.table_input.proofs.StartsLaws.{started-input-fits, started-input-length}
 use Rattle.cabinet.proofs.run.Statement.{statement}
 use Rattle.cabinet.proofs.run.Tie as tie
 
-open-requires : tie.Need-open-requires
-open-requires c κs = search needs
+slice-aggregate-started-on-input : tie.Need-slice-aggregate-started-on-input
+slice-aggregate-started-on-input c = search needs
+
+started-on-input-requires : tie.Need-started-on-input-requires
+started-on-input-requires c κs = search needs
 
 enum-told : tie.Need-enum-told
 enum-told c = search needs
 
 slice-aggregate-serve : tie.Need-slice-aggregate-serve
-slice-aggregate-serve c = sym (length-take-le _ _ (c .before .before .before .before .open .ensures .within))
+slice-aggregate-serve c = sym (length-take-le _ _ (c .before .before .before .before .before .started-on-input .ensures .within))
+
+slice-aggregate-serve-2 : tie.Need-slice-aggregate-serve-2
+slice-aggregate-serve-2 c = search needs
 
 serve-requires : tie.Need-serve-requires
 serve-requires c κs =
-    let e = c .before .before .before .before .before in
-    let o = e .before .before in
-    let p = o .before .before .before .before .before .pre in
+    let e = c .before .before .before .before .before .before in
+    let o = e .before .before .before .before in
+    let s = o .before .before .before .before .before .before .before in
     let accepted = e .enum-told .given .1 in
-    (o .open .ensures .fits accepted, (p .0, (p .1, opened-fits _ _ (o .open .ensures) accepted)))
+    let started = o .started-on-input .ensures in (
+      record {
+        planned = started .fits accepted;
+        stateWhole = started-input-length _ _ _ _ _ (length-replicate {A = ℕ} stateNumbers 0) started accepted;
+        stateKept = started-input-fits _ _ _ _ _ (length-replicate {A = ℕ} stateNumbers 0) started accepted;
+        spaceFull = s .pre .0;
+        room = omega (arith, s .pre .1);
+      },
+      s .pre .1,
+    )
 
 enum-known-verdict : tie.Need-enum-known-verdict
 enum-known-verdict c = search needs
@@ -48,9 +67,11 @@ pub run-spec : {M : Type 1} → statement M
 run-spec =
     tie.close
     (tie.spec
-    open-requires
+    slice-aggregate-started-on-input
+    started-on-input-requires
     enum-told
     slice-aggregate-serve
+    slice-aggregate-serve-2
     serve-requires
     enum-known-verdict
     refuse-requires

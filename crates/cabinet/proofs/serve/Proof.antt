@@ -6,49 +6,26 @@ use mathlib.Core.Path.{_≡_, refl, sym, ap, subst, _∙_}
 use borrow.Author.Needs.{needs}
 use native.Mathlib.Omega.{arith}
 use lib.ListN.{length}
-use Rattle.table.specs.InUse.{tableIn}
-use Rattle.state.specs.Rules.{stateFits}
-use Rattle.report.proofs.ReportLaws.{record-fits}
-use Rattle.session.specs.Windows.{Within, SessionFits}
-use Rattle.session.proofs.WindowLaws.{window-after}
+use Rattle.report.specs.Answers.{RecordReady}
+use Rattle.report.proofs.ReportLaws.{record-ready}
+use Rattle.buffers.specs.Windows.{Within}
+use Rattle.buffers.specs.Held.{BuffersFit}
+use Rattle.buffers.proofs.WindowLaws.{window-after}
 use Rattle.cabinet.proofs.serve.Statement.{statement}
 use Rattle.cabinet.proofs.serve.Tie as tie
 
 abbrev Inv-loop : tie.InvT-loop
-Inv-loop table plan input₀ numbers₀ out₀ state₀ session₀ count₀ input numbers out state session count =
+Inv-loop table plan weights state₀ input₀ space₀ out₀ held₀ count₀ state input space out held count =
     (count ≤ 100000)
-    × (SessionFits session (length input)
+    × (BuffersFit held (length input)
     × ((length input ≡ length input₀)
-    × ((length numbers ≡ length numbers₀)
-    × ((length out ≡ length out₀) × (stateFits (tableIn table) state ≡ true)))))
+    × ((length space ≡ length space₀) × ((length out ≡ length out₀) × RecordReady table plan weights state space out 0))))
 
 abbrev μ-loop : tie.MeasureT-loop
-μ-loop table plan input₀ numbers₀ out₀ state₀ session₀ count₀ input numbers out state session count = 100000 - count
-
-first-session-requires : tie.Need-first-session-requires Inv-loop μ-loop
-first-session-requires c κs = search needs
-
-loop-holds : tie.Need-loop-holds Inv-loop μ-loop
-loop-holds c =
-    let s = c .before .before .before .before .before in
-    let first = c .first-session .ensures in (
-      omega arith,
-      (
-        record {
-          window = record { order = first .window .order; inside = omega (arith, first .window .inside) };
-          text = first .text;
-        },
-        (refl, (refl, (refl, s .pre .1 .1 .1))),
-      ),
-    )
+μ-loop table plan weights state₀ input₀ space₀ out₀ held₀ count₀ state input space out held count = 100000 - count
 
 abbrev start : tie.At-loop Inv-loop μ-loop → tie.Start Inv-loop μ-loop
-start c = c .before .before .before .before .before .before
-
-ready-requires : tie.Need-ready-requires Inv-loop μ-loop
-ready-requires c κs =
-    let l = c .before .before .before in
-    (l .loop .inv .1 .0, l .loop .inv .1 .1 .1 .1 .0 ∙ start l .pre .1 .1 .0)
+start c = c .before .before .before .before .before .before .before
 
 -- the input that is ready lies within the buffer
 window-kept :
@@ -56,7 +33,7 @@ window-kept :
     → let r = c .before .before .before .before in Within (r .ready .result .window) (length (r .ready .last .1 .0))
 window-kept c =
     let r = c .before .before .before .before in
-    subst (Within _) (sym (r .ready .kept .1 .0)) (r .ready .ensures .0 .window)
+    subst (Within _) (sym (r .ready .kept .1 .0)) (r .ready .ensures .fits .window)
 
 -- the places of the code, from the end of a turn back to its record's length, its test and the loop
 module _ (c : tie.After-after-record Inv-loop μ-loop) where
@@ -65,6 +42,27 @@ module _ (c : tie.After-after-record Inv-loop μ-loop) where
 
   abbrev turn : tie.In-loop Inv-loop μ-loop
   turn = counted .before .before .before .before .before .before .before .before .before .before
+
+first-buffers-requires : tie.Need-first-buffers-requires Inv-loop μ-loop
+first-buffers-requires c κs = search needs
+
+loop-holds : tie.Need-loop-holds Inv-loop μ-loop
+loop-holds c =
+    let first = c .first-buffers .ensures in (
+      omega arith,
+      (
+        record {
+          window = record { order = first .window .order; inside = omega (arith, first .window .inside) };
+          text = first .text;
+        },
+        (refl, (refl, (refl, c .before .before .before .before .before .before .pre .0))),
+      ),
+    )
+
+ready-requires : tie.Need-ready-requires Inv-loop μ-loop
+ready-requires c κs =
+    let l = c .before .before .before in
+    (l .loop .inv .1 .0, l .loop .inv .1 .1 .1 .1 .0 ∙ start l .pre .1)
 
 sub-record-length : tie.Need-sub-record-length Inv-loop μ-loop
 sub-record-length c = window-kept c .order
@@ -89,18 +87,24 @@ part-answer-next-end c = let w = window-kept (c .before .before .before .before)
 
 answer-next-requires : tie.Need-answer-next-requires Inv-loop μ-loop
 answer-next-requires c κs =
-    let w = c .before .before .before .before .before .before .before in
+    let w = c .before .before .before .before .before .before .before .before in
     let r = w .before .before .before .before in
     let l = r .before .before .before .before in
     let inv = l .loop .inv .1 .1 .1 in
-    let p = start l .pre in
-    let at = r .ready .ensures .1 .1 (w .before .if1 .left) in
-    (p .0, (inv .1 .1, (inv .0 ∙ p .1 .0, omega (arith, at, inv .1 .0, p .1 .1 .0))))
+    let k = inv .1 .1 in
+    let at = r .ready .ensures .room (w .before .if1 .left) in
+    record {
+      planned = k .planned;
+      stateWhole = k .stateWhole;
+      stateKept = k .stateKept;
+      spaceFull = k .spaceFull;
+      room = omega (arith, at, inv .1 .0, start l .pre .1);
+    }
 
 after-record-requires : tie.Need-after-record-requires Inv-loop μ-loop
 after-record-requires c κs =
-    let a = c .before .before .before .before .before in
-    let n = a .before .before .before .before .before in
+    let a = c .before .before .before .before in
+    let n = a .before .before .before .before .before .before in
     let w = window-kept (n .before .before .before) in
     window-after _ _ _ _ true w (n .record-length .ensures .within) .order
 
@@ -115,24 +119,24 @@ loop-again c =
     let w = counted c .before .before .before in
     let l = turn c .before .loop in
     let r = w .before .before .before .before in
-    let a = c .before .before .before .before .before .before in
+    let a = c .before .before .before .before .before in
     let k = a .answer-next .kept in
     let e = c .after-record .ensures in
     let few = counted c .record-length .ensures .within in
-    let s = start (turn c .before) in (
+    let inv = l .inv .1 .1 in (
       omega (arith, turn c .loop-test .taken),
       (
         record {
           window = rw (e .0) (window-after _ _ _ _ _ (window-kept w) few);
-          text = rw (e .1) (omega (arith, a .answer-next .ensures .within, r .ready .ensures .1 .1 (w .before .if1 .left)));
+          text = rw (e .1) (omega (arith, a .answer-next .ensures .answered .within, r .ready .ensures .room (w .before .if1 .left)));
         },
         (
-          r .ready .kept .1 .0 ∙ l .inv .1 .1 .0,
+          r .ready .kept .1 .0 ∙ inv .0,
           (
-            k .1 .1 .1 .1 .0 ∙ l .inv .1 .1 .1 .0,
+            k .1 .1 .1 .1 .1 .0 ∙ inv .1 .0,
             (
-              k .1 .1 .1 .1 .1 .0 ∙ l .inv .1 .1 .1 .1 .0,
-              rw (a .answer-next .ensures .state) (record-fits _ _ _ (s .pre .0 .table .bounds) (l .inv .1 .1 .1 .1 .1)),
+              k .1 .1 .1 .1 .1 .1 .0 ∙ inv .1 .1 .0,
+              record-ready _ _ _ _ _ _ _ (inv .1 .1 .1) (a .answer-next .ensures .left) (k .1 .1 .1 .1 .1 .0) (k .1 .1 .1 .1 .1 .1 .0),
             ),
           ),
         ),
@@ -143,8 +147,8 @@ write-out-requires : tie.Need-write-out-requires Inv-loop μ-loop
 write-out-requires c κs =
     let l = c .before .before in
     ⊎-elim
-    (λ w. omega (arith, ap (λ s. s .at) (w .2), l .loop .inv .1 .0 .text, l .loop .inv .1 .1 .1 .1 .0, start l .pre .1 .1 .0))
-    (λ w. omega (arith, ap (λ s. s .at) (w .8), w .3 .ensures .0 .text, l .loop .inv .1 .1 .1 .1 .0, start l .pre .1 .1 .0))
+    (λ w. omega (arith, ap (λ s. s .at) (w .2), l .loop .inv .1 .0 .text, l .loop .inv .1 .1 .1 .1 .0, start l .pre .1))
+    (λ w. omega (arith, ap (λ s. s .at) (w .8), w .3 .ensures .fits .text, l .loop .inv .1 .1 .1 .1 .0, start l .pre .1))
     (c .before .loop-test .came)
 
 same-length : tie.Need-same-length Inv-loop μ-loop
@@ -169,7 +173,7 @@ serve-spec =
     (tie.spec
     Inv-loop
     μ-loop
-    first-session-requires
+    first-buffers-requires
     loop-holds
     ready-requires
     sub-record-length

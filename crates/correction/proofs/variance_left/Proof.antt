@@ -1,10 +1,9 @@
 -- `variance_left` meets its contract.
 use borrow.Author.Needs.{needs}
-use Prim.Native.Nat.{_+_, _*_, _/_, _≤_}
+use Prim.Native.Nat.{_+_}
 use mathlib.Core.Path.{refl}
 use native.Mathlib.Nat.{mul-le-mul}
 use native.Mathlib.Omega.{arith}
-use Rattle.units.specs.Units.{C}
 use Rattle.method.specs.Correction.{correctedVariance}
 use Rattle.gain.proofs.GainLaws.{part-le}
 use Rattle.correction.proofs.variance_left.Statement.{statement}
@@ -25,20 +24,14 @@ mul-t6 c = omega (arith, mul-le-mul (c .before .before .before .pre .1 .1 .margi
 div-t7 : tie.Need-div-t7
 div-t7 c = search needs
 
--- what is left is no more than there was
-module _ (c : tie.Start) where
-  value-le : c .args .variance .value * c .args .noise / (c .args .variance .value + c .args .noise) ≤ C
-  value-le = omega (arith, c .pre .1 .1 .value, part-le (c .args .variance .value) (c .args .noise) (c .args .variance .value + c .args .noise) (omega arith))
-
-  margin-le : c .args .variance .margin * c .args .noise / (c .args .variance .value + c .args .noise) ≤ C
-  margin-le = omega (arith, c .pre .1 .1 .margin, part-le (c .args .variance .margin) (c .args .noise) (c .args .variance .value + c .args .noise) (omega arith))
-
 add-t8 : tie.Need-add-t8
-add-t8 c = omega (arith, margin-le (c .before .before .before))
+add-t8 c =
+    let a = c .before .before .before .args in
+    omega (arith, c .before .before .before .pre .1 .1 .margin, part-le (a .variance .margin) (a .noise) (a .variance .value + a .noise) (omega arith))
 
 returns : tie.Need-returns
 unfolding correctedVariance
-returns c = (refl, (value-le (c .before .before .before), omega (arith, margin-le (c .before .before .before))))
+returns c = refl
 
 pub variance-left-spec : {M : Type 1} → statement M
 variance-left-spec = tie.close (tie.spec add-total mul-t4 div-t5 mul-t6 div-t7 add-t8 returns)

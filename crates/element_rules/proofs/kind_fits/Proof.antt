@@ -1,10 +1,8 @@
 -- `kind_fits` meets its contract.
-use Prim.Native.Nat.{ℕ}
-use mathlib.Core.Path.{ap}
-use borrow.Author.Tests.{eq-eqb, ne-eqb}
+use mathlib.Core.Path.{sym, _∙_}
 use borrow.Author.Needs.{needs}
-use lib.Dec.{eqb}
 use Rattle.elements.specs.Rules.{kindFits}
+use Rattle.elements.proofs.KindLaws.{by-basin, by-reach, by-none}
 use Rattle.element_rules.proofs.kind_fits.Statement.{statement}
 use Rattle.element_rules.proofs.kind_fits.Tie as tie
 
@@ -16,17 +14,15 @@ reach-fits-requires c κs = search needs
 
 returns : tie.Need-returns
 unfolding kindFits
-returns c = rw (eq-eqb _ _ (c .before .match .keys1)) (c .basin-fits .ensures)
+returns c = c .basin-fits .ensures ∙ sym (by-basin _ _ _ _ (c .before .match .keys1))
 
 returns-2 : tie.Need-returns-2
 unfolding kindFits
-returns-2 c =
-    let k = c .before .match .keys2 in
-    rw (ap (λ (x : ℕ). eqb x 1) k, ap (λ (x : ℕ). eqb x 2) k) (c .reach-fits .ensures)
+returns-2 c = c .reach-fits .ensures ∙ sym (by-reach _ _ _ _ (c .before .match .keys2))
 
 returns-3 : tie.Need-returns-3
 unfolding kindFits
-returns-3 c = rw (ne-eqb _ 1 (c .match .rest .0 .1), ne-eqb _ 2 (c .match .rest .1))
+returns-3 c = sym (by-none _ _ _ _ (c .match .rest .0 .1) (c .match .rest .1))
 
 pub kind-fits-spec : {M : Type 1} → statement M
 kind-fits-spec =

@@ -6,6 +6,7 @@ use Rattle.method.specs.Figures.{AnsweredFiguresFit}
 use Rattle.method.specs.Correction.{correctionAnswer}
 use Rattle.record.specs.Decoded.{ObservationFits}
 use Rattle.element_step.specs.ElementStep.{correctedBy, observationNumbers}
+use Rattle.element_step.specs.Answers.{correctedAnswer}
 use Rattle.element_step.proofs.correct_by.Statement.{statement}
 use Rattle.element_step.proofs.correct_by.Tie as tie
 
@@ -23,11 +24,11 @@ correct-requires c κs =
     (o .1 .0, (o .1 .1, (o .0, p .1)))
 
 returns : tie.Need-returns
-unfolding correctedBy observationNumbers AnsweredFiguresFit
+unfolding correctedAnswer correctedBy observationNumbers AnsweredFiguresFit
 returns c = (rw (c .enum-told .given .1) (sym (none-left _)), c .before .before .pre .1)
 
 returns-2 : tie.Need-returns-2
-unfolding correctedBy observationNumbers correctionAnswer
+unfolding correctedAnswer correctedBy observationNumbers correctionAnswer
 returns-2 c = (rw (c .before .before .observation .given .1) (c .correct .ensures .0), c .correct .ensures .1)
 
 pub correct-by-spec : {M : Type 1} → statement M

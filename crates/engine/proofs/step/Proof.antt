@@ -1,22 +1,23 @@
 -- `step` meets its contract.
 use borrow.Author.Needs.{needs}
-use mathlib.Core.Path.{sym, ap, _∙_}
-use Rattle.table.specs.Verdicts.{verdictAnswer}
+use Rattle.table.proofs.HeldLaws.{table-accepted, table-refused}
 use Rattle.table.proofs.TableLaws.{rules-accepted}
-use Rattle.engine.specs.Entries.{stepAnswer}
+use Rattle.entries.specs.Entries.{stepAnswer}
 use Rattle.engine.proofs.EntryLaws.{refused-by-table, answered-as}
 use Rattle.engine.proofs.step.Statement.{statement}
 use Rattle.engine.proofs.step.Tie as tie
 
-prepare-requires : tie.Need-prepare-requires
-prepare-requires c κs = search needs
+read-requires : tie.Need-read-requires
+read-requires c κs = search needs
 
 enum-told : tie.Need-enum-told
 enum-told c = search needs
 
-step-with-requires : tie.Need-step-with-requires
-step-with-requires c κs =
-    let p = c .before .before .before .prepare .ensures in p .fits (sym (p .verdict) ∙ ap verdictAnswer (c .enum-told .given .1))
+step-counted-requires : tie.Need-step-counted-requires
+step-counted-requires c κs =
+    let e = c .before in
+    let k = table-accepted _ _ (e .before .before .read .ensures) (e .enum-told .given .1) in
+    record { table = k .table; held = k .counts }
 
 enum-told-2 : tie.Need-enum-told-2
 enum-told-2 c = search needs
@@ -24,18 +25,15 @@ enum-told-2 c = search needs
 returns : tie.Need-returns
 unfolding stepAnswer
 returns c =
-    let e = c .before in
-    let p = e .before .before .before .prepare .ensures in
-    let k = sym (p .verdict) ∙ ap verdictAnswer (e .enum-told .given .1) in
-    answered-as (rules-accepted _ _ k) (c .step-with .ensures)
+    let e = c .before .before in
+    let k = table-accepted _ _ (e .before .before .read .ensures) (e .enum-told .given .1) in
+    answered-as (rules-accepted _ _ (k .kept)) (c .step-counted .ensures)
 
 returns-2 : tie.Need-returns-2
 unfolding stepAnswer
-returns-2 c =
-    let p = c .before .before .before .prepare .ensures in
-    refused-by-table _ _ _ _ _ (sym (p .verdict) ∙ ap verdictAnswer (c .enum-told2 .given .1)) (c .enum-told2 .given .1)
+returns-2 c = refused-by-table _ _ _ _ _ (table-refused _ _ (c .before .before .read .ensures) (c .enum-told2 .given .1)) (c .enum-told2 .given .1)
 
 pub step-spec : {M : Type 1} → statement M
 step-spec =
     tie.close
-    (tie.spec prepare-requires enum-told step-with-requires enum-told-2 returns returns-2)
+    (tie.spec read-requires enum-told step-counted-requires enum-told-2 returns returns-2)

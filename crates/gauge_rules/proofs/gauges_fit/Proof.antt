@@ -1,29 +1,46 @@
 -- `gauges_fit` meets its contract.
 use Prim.Native.Nat.{_≤_, _-_}
-use mathlib.Core.Path.{_≡_, ap, _∙_}
+use mathlib.Core.Bool.{true}
+use mathlib.Core.Path.{_≡_, refl, sym, ap, _∙_}
 use borrow.Author.Needs.{needs}
+use borrow.Author.Tests.{not-true, not-false}
 use native.Mathlib.Omega.{arith}
 use Rattle.fields.specs.Ranges.{allBelow}
-use Rattle.fields.proofs.RangeLaws.{all-none, all-more}
+use Rattle.fields.proofs.RangeLaws.{all-none, all-more, all-fails}
 use Rattle.gauges.specs.Gauges.{gaugeAt}
-use Rattle.gauges.specs.Rules.{gaugeFits}
+use Rattle.gauges.specs.Rules.{elementBefore, gaugeFits}
+use Rattle.gauges.proofs.GaugeLaws.{element-next}
 use Rattle.gauge_rules.proofs.gauges_fit.Statement.{statement}
 use Rattle.gauge_rules.proofs.gauges_fit.Tie as tie
 
 abbrev Inv-loop : tie.InvT-loop
-Inv-loop table n m fit₀ g₀ fit g = (g ≤ m) × (fit ≡ allBelow (gaugeFits n (gaugeAt table n)) g)
+Inv-loop table n m above₀ g₀ above g =
+    (g ≤ m) × ((allBelow (gaugeFits n (gaugeAt table n)) g ≡ true) × (above ≡ elementBefore (gaugeAt table n) g))
 
 abbrev μ-loop : tie.MeasureT-loop
-μ-loop table n m fit₀ g₀ fit g = m - g
+μ-loop table n m above₀ g₀ above g = m - g
 
 loop-holds : tie.Need-loop-holds Inv-loop μ-loop
-loop-holds c = (omega arith, all-none _)
-
-gauge-at-requires : tie.Need-gauge-at-requires Inv-loop μ-loop
-gauge-at-requires c κs = search needs
+unfolding elementBefore
+loop-holds c = (omega arith, (sym (all-none _), refl))
 
 gauge-fits-requires : tie.Need-gauge-fits-requires Inv-loop μ-loop
-gauge-fits-requires c κs = (((omega arith, omega arith), omega arith), c .gauge-at .ensures)
+gauge-fits-requires c κs =
+    let p = c .before .before .before .pre in
+    record {
+      elements = p .0;
+      gauges = omega (arith, p .1 .0, c .loop-test .taken);
+      whole = omega (arith, p .1 .1, c .loop-test .taken);
+      before = c .before .loop .inv .1 .1;
+    }
+
+returns : tie.Need-returns Inv-loop μ-loop
+returns c =
+    let f = c .before in
+    sym (all-fails _ _ _ (f .before .loop-test .taken) (sym (f .gauge-fits .ensures) ∙ not-true _ (c .if1 .taken)))
+
+element-of-requires : tie.Need-element-of-requires Inv-loop μ-loop
+element-of-requires c κs = search needs
 
 add-g : tie.Need-add-g Inv-loop μ-loop
 add-g c = search needs
@@ -32,12 +49,21 @@ loop-less : tie.Need-loop-less Inv-loop μ-loop
 loop-less c = search needs
 
 loop-again : tie.Need-loop-again Inv-loop μ-loop
-loop-again c = (omega arith, all-more _ _ (c .before .before .before .loop .inv .1) (c .gauge-fits .ensures))
+loop-again c =
+    let f = c .before .before in
+    let inv = f .before .before .loop .inv in (
+      omega (arith, f .before .loop-test .taken),
+      (
+        sym (all-more _ _ (sym (inv .1 .0)) (sym (not-false _ (c .before .if1 .left)) ∙ f .gauge-fits .ensures)),
+        c .element-of .ensures ∙ element-next _ _,
+      ),
+    )
 
-returns : tie.Need-returns Inv-loop μ-loop
-returns c =
-    let e : c .before .loop .g ≡ c .before .before .before .args .m = omega arith in
-    c .before .loop .inv .1 ∙ ap (allBelow _) e
+returns-2 : tie.Need-returns-2 Inv-loop μ-loop
+returns-2 c =
+    let inv = c .before .loop .inv in
+    let e : c .before .loop .g ≡ c .before .before .before .args .m = omega (arith, inv .0, c .loop-test .left) in
+    sym (rw e at (inv .1 .0))
 
 pub gauges-fit-spec : {M : Type 1} → statement M
 gauges-fit-spec =
@@ -46,9 +72,10 @@ gauges-fit-spec =
     Inv-loop
     μ-loop
     loop-holds
-    gauge-at-requires
     gauge-fits-requires
+    returns
+    element-of-requires
     add-g
     loop-less
     loop-again
-    returns)
+    returns-2)

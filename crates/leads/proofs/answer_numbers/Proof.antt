@@ -1,16 +1,15 @@
 -- `answer_numbers` meets its contract.
+use borrow.Author.Needs.{needs}
 use Prim.Native.Nat.{_+_, _*_, _≤_}
 use mathlib.Core.Path.{refl}
-use borrow.Author.Needs.{needs}
-use native.Mathlib.Nat.{mul-le-mul}
 use native.Mathlib.Omega.{arith}
+use Rattle.sizes.specs.Sizes.{answerNumbers}
+use Rattle.leads.proofs.AnswerLaws.{answer-most}
 use Rattle.leads.proofs.answer_numbers.Statement.{statement}
 use Rattle.leads.proofs.answer_numbers.Tie as tie
 
-most : (c : tie.Start) → 4 * c .args .elements * (c .args .leads + 1) ≤ 3328
-most c =
-    let l : c .args .leads + 1 ≤ 13 = omega (arith, c .pre .1) in
-    omega (arith, mul-le-mul (c .pre .0) l)
+most : (c : tie.Start) → 4 * c .args .elements * (c .args .leads + 1) ≤ answerNumbers
+most c = answer-most _ _ (c .pre .0) (c .pre .1)
 
 mul-result : tie.Need-mul-result
 mul-result c = search needs

@@ -1,103 +1,144 @@
 -- `work_leads` meets its contract.
-use Prim.Native.Nat.{_+_, _≤_, _<_, _-_}
-use mathlib.Core.Path.{_≡_, refl, ap}
+use Prim.Native.Nat.{ℕ, _+_, _*_, _≤_, _<_, _-_}
+use mathlib.Core.Path.{_≡_, refl}
 use borrow.Author.Needs.{needs}
 use native.Mathlib.Omega.{arith}
 use lib.ListN.{length}
+use Rattle.sizes.specs.Sizes.{mostElements, forecastSpace}
 use Rattle.table.specs.InUse.{tableIn}
-use Rattle.table.proofs.HeldLaws.{element-there, element-bounds}
-use Rattle.record.specs.Decoded.{ObservationFits}
-use Rattle.plan.proofs.PlanLaws.{weight-in-range}
-use Rattle.network.proofs.InRangeLaws.{element-in-range, within, figures-in-range}
-use Rattle.rain_sums.proofs.RainLaws.{rains-held}
-use Rattle.leads.proofs.LeadsLaws.{figures-again, LeadsWalked}
-use Rattle.network.proofs.CoursesLaws.{below-most, walked-begin, walked-again}
-use Rattle.leads.proofs.ForecastLaws.{small-count, short-plan, own-place, above-place, below-place, course-of, first-held, element-under, worked-accepted, worked-refused}
+use Rattle.table.specs.Tables.{TableValues}
+use Rattle.leads.specs.Held.{spaceSize}
+use Rattle.leads.proofs.AnswerLaws.{few-leads}
+use Rattle.leads.proofs.WorkLaws.{Worked, worked-begin, worked-accepted}
+use Rattle.leads.proofs.TurnLaws.{place-fits, next-fits, Turn, places-there, below-most, turn-ready, turn-refused, turn-again}
 use Rattle.leads.proofs.work_leads.Statement.{statement}
 use Rattle.leads.proofs.work_leads.Tie as tie
 
 abbrev Inv-loop : tie.InvT-loop
-Inv-loop table count answer₀ sums₀ plan state n leads i₀ answer sums i =
-    (i ≤ n)
-    × ((length answer ≡ 3328) × ((length sums ≡ 3380) × LeadsWalked (tableIn table) state (leads + 1) leads i answer sums))
+Inv-loop table weights state space₀ n leads width steps count i₀ space i = (i ≤ n) × ((length space ≡ length space₀) × Worked (tableIn table) state leads i i space)
 
 abbrev μ-loop : tie.MeasureT-loop
-μ-loop table count answer₀ sums₀ plan state n leads i₀ answer sums i = n - i
+μ-loop table weights state space₀ n leads width steps count i₀ space i = n - i
+
+abbrev start : tie.In-loop Inv-loop μ-loop → tie.Start Inv-loop μ-loop
+start c = c .before .before .before .before .before .before .before
+
+abbrev river : tie.In-loop Inv-loop μ-loop → TableValues
+river c = tableIn (start c .args .table .now)
+
+-- an element in use
+module _ (c : tie.In-loop Inv-loop μ-loop) where
+  used : c .before .loop .i < river c .elements
+  used = omega (arith, c .loop-test .taken, start c .pre .0 .fits .elements)
+
+  few : c .before .loop .i < mostElements
+  few = omega (arith, used, start c .pre .0 .fits .table .bounds .elementsMost)
+
+  room : spaceSize (river c) ≤ length (c .before .loop .space)
+  room = omega (arith, start c .pre .1 .room, c .before .loop .inv .1 .0)
+
+  there :
+      (k : ℕ)
+      → k ≤ river c .elements
+      → 4 * (k * (start c .args .plan .leads + 1) + (start c .args .plan .leads + 1)) ≤ length (c .before .loop .space)
+  there k l = places-there _ _ _ _ (start c .pre .0) (c .before .loop .space) room k l
+
+  own-there : 4 * ((c .before .loop .i + 1) * (start c .args .plan .leads + 1) + (start c .args .plan .leads + 1)) ≤ length (c .before .loop .space)
+  own-there = there (c .before .loop .i + 1) (omega (arith, used))
+
+-- its turn of the loop, from where its figures are put, its input is made, and its leads are worked out
+abbrev turn : tie.After-put-figures Inv-loop μ-loop → tie.In-loop Inv-loop μ-loop
+turn c = c .before .before .before
+
+abbrev placed : tie.After-lead-input Inv-loop μ-loop → tie.After-put-figures Inv-loop μ-loop
+placed c = c .before .before .before .before
+
+abbrev made : tie.After-work-element Inv-loop μ-loop → tie.After-lead-input Inv-loop μ-loop
+made c = c .before .before .before .before
+
+-- what is known of it there
+turned :
+    (a : tie.After-lead-input Inv-loop μ-loop)
+    → Turn (start (turn (placed a)) .args .table .now) (start (turn (placed a)) .args .plan) (start (turn (placed a)) .args .weights .now)
+    (start (turn (placed a)) .args .state .now) (start (turn (placed a)) .pre .0) (turn (placed a) .before .loop .i)
+    (turn (placed a) .before .loop .space) (placed a .before .before .figures-of .result) (placed a .put-figures .last .0)
+    (turn (placed a) .before .before .rain-count .result) (a .lead-input .result)
+turned a =
+    let p = placed a in
+    let l = turn p in
+    record {
+      used = used l;
+      room = room l;
+      worked = l .before .loop .inv .1 .1;
+      first = p .before .before .figures-of .ensures;
+      placed = p .put-figures .ensures;
+      few = l .before .before .rain-count .ensures .0;
+      made = a .lead-input .ensures;
+    }
+
+-- the first place of the element below
+below : (a : tie.After-lead-input Inv-loop μ-loop) → a .lead-input .result .element .down * (start (turn (placed a)) .args .plan .leads + 1) ≤ forecastSpace
+below a =
+    let p = placed a in
+    let l = turn p in
+    below-most _ _ _ _ (start l .pre .0) (turned a)
+
+add-width : tie.Need-add-width Inv-loop μ-loop
+add-width c = omega (arith, few-leads _ _ _ (c .before .before .before .pre .0 .fits))
+
+element-copy-out-steps : tie.Need-element-copy-out-steps Inv-loop μ-loop
+element-copy-out-steps c = search needs
+
+rain-count-requires : tie.Need-rain-count-requires Inv-loop μ-loop
+rain-count-requires c κs = search needs
 
 loop-holds : tie.Need-loop-holds Inv-loop μ-loop
 loop-holds c =
-    let p = c .before .before .before .pre .1 .1 .1 in
-    (omega arith, (p .0, (ap length (p .1), walked-begin _ _ _ _ _ _ 3380 _ _ (p .1))))
+    let p = c .before .before .before .before .before .pre in
+    (omega arith, (refl, worked-begin _ _ _ _ (p .1 .empty)))
 
--- an element in use
-abbrev start : tie.In-loop Inv-loop μ-loop → tie.Start Inv-loop μ-loop
-start c = c .before .before .before .before .before
+figures-of-requires : tie.Need-figures-of-requires Inv-loop μ-loop
+figures-of-requires c κs = few c
 
-module _ (c : tie.In-loop Inv-loop μ-loop) where
-  used : c .before .loop .i < tableIn (start c .args .table .now) .elements
-  used = omega (arith, c .loop-test .taken, start c .pre .0 .elements)
+add-own : tie.Need-add-own Inv-loop μ-loop
+add-own c = omega (arith, few (c .before))
 
-  few : c .before .loop .i < 64
-  few = within _ (start c .pre .0 .table) used
+mul-own : tie.Need-mul-own Inv-loop μ-loop
+mul-own c = omega (arith, own-there (c .before))
 
-element-at-requires : tie.Need-element-at-requires Inv-loop μ-loop
-element-at-requires c κs = element-there _ (start c .pre .0 .table) (used c)
+add-here : tie.Need-add-here Inv-loop μ-loop
+add-here c = omega (arith, own-there (c .before))
 
-mul-place : tie.Need-mul-place Inv-loop μ-loop
-mul-place c = omega (arith, few (c .before))
+put-figures-requires : tie.Need-put-figures-requires Inv-loop μ-loop
+put-figures-requires c κs =
+    omega (arith, own-there (c .before .before))
 
-element-copy-out-place : tie.Need-element-copy-out-place Inv-loop μ-loop
-element-copy-out-place c = few (c .before)
+mul-lead-input : tie.Need-mul-lead-input Inv-loop μ-loop
+mul-lead-input c = omega (arith, few (turn (c .before .before)))
 
--- its turn of the loop, from what is worked out of it
-abbrev turn : tie.After-sum-of Inv-loop μ-loop → tie.In-loop Inv-loop μ-loop
-turn c = c .before .before .before
+shared-slice-read-lead-input : tie.Need-shared-slice-read-lead-input Inv-loop μ-loop
+shared-slice-read-lead-input c =
+    let l = turn (c .before .before .before) in
+    omega (arith, used l, start l .pre .0 .fits .room)
 
-abbrev summed : tie.After-work-element Inv-loop μ-loop → tie.After-sum-of Inv-loop μ-loop
-summed c = c .before .before .before .before .before
+lead-input-requires : tie.Need-lead-input-requires Inv-loop μ-loop
+lead-input-requires c κs =
+    let l = turn (c .before .before .before) in
+    let g = start l .pre .0 in
+    record { table = g .fits .table; used = used l; state = g .state; few = l .before .before .rain-count .ensures .1 }
 
-sum-of-requires : tie.Need-sum-of-requires Inv-loop μ-loop
-sum-of-requires c κs =
-    let l = c .before .before in
-    let p = start l .pre in
-    (small-count _ _ (p .1 .0), rw (c .before .element-at .ensures) (rains-held _ _ (p .1 .1 .0) _ (used l)))
+mul-below : tie.Need-mul-below Inv-loop μ-loop
+mul-below c = place-fits _ (below (c .before .before))
 
-mean-rain-inflow-requires : tie.Need-mean-rain-inflow-requires Inv-loop μ-loop
-mean-rain-inflow-requires c κs =
-    let l = turn c in
-    let p = start l .pre in
-    let e = element-bounds _ (p .0 .table) (used l) in
-    let is = c .before .before .element-at .ensures in
-    (omega (arith, c .sum-of .ensures .1), (small-count _ _ (p .1 .0), (rw is (e .area), rw is (e .runoff))))
-
-mul-t18 : tie.Need-mul-t18 Inv-loop μ-loop
-mul-t18 c = omega (arith, few (turn (c .before)))
-
-element-copy-out-t24 : tie.Need-element-copy-out-t24 Inv-loop μ-loop
-element-copy-out-t24 c = few (turn (c .before))
+add-below : tie.Need-add-below Inv-loop μ-loop
+add-below c = next-fits _ (below (c .before .before))
 
 work-element-requires : tie.Need-work-element-requires Inv-loop μ-loop
-unfolding ObservationFits
 work-element-requires c κs =
-    let r = c .before .before .before .before in
-    let l = turn r in
-    let p = start l .pre in
-    let inv = l .before .loop .inv .1 in
-    let is = r .before .before .element-at .ensures in
-    record {
-      inRange = record {
-        element = rw is (element-in-range _ (p .0 .table) (used l));
-        weight = weight-in-range _ _ (p .0) _ (used l);
-        lead = omega arith;
-        observation = tt;
-      };
-      fits = figures-in-range _ _ (p .1 .1 .0 .figures) _ (used l);
-      short = short-plan _ _ (p .0);
-      own = omega (arith, inv .0, own-place _ _ (p .0) (used l));
-      above = omega (arith, inv .1 .0, above-place _ _ (p .0) (used l));
-      below = rw is (omega (arith, inv .1 .0, below-place _ _ (p .0) (used l)));
-      small = record { at = λ k m n. below-most _ _ _ (inv .1 .1 .small k m n) (omega (arith, few l)) };
-    }
+    let a = c .before .before .before in
+    let p = placed a in
+    let l = turn p in
+    turn-ready _ _ _ _ (start l .pre .0) (turned a)
 
 enum-told : tie.Need-enum-told Inv-loop μ-loop
 enum-told c = search needs
@@ -107,62 +148,48 @@ enum-told-2 c = search needs
 
 same-length : tie.Need-same-length Inv-loop μ-loop
 same-length c =
-    let e = c .before .before .before .before .before .before in
-    let l = turn (summed e) in
-    omega (arith, e .work-element .kept .1 .1 .1 .1 .0, l .before .loop .inv .1 .0, start l .pre .1 .1 .1 .0)
-
-same-length-2 : tie.Need-same-length-2 Inv-loop μ-loop
-same-length-2 c =
-    let e = c .before .before .before .before .before .before in
-    let l = turn (summed e) in
-    omega (arith, e .work-element .kept .1 .1 .1 .1 .1 .0, l .before .loop .inv .1 .1 .0, ap length (start l .pre .1 .1 .1 .1))
+    let k = c .before .before .before .before in
+    let p = placed (made k) in
+    omega (arith, k .work-element .kept, p .put-figures .kept, turn p .before .loop .inv .1 .0)
 
 returns : tie.Need-returns Inv-loop μ-loop
 returns c =
-    let e = c .before .before .before .before .before .before in
-    let r = summed e in
-    let l = turn r in
-    let p = start l .pre in
-    worked-refused _ _ _ (p .0 .leads) _ _ _
-    (element-under _ _ _ _ _ (course-of _ _ (p .0) _ _ (used l) _ _ _ _ (r .before .before .element-at .ensures) (p .1 .0) (r .sum-of .ensures .0) (e .before .before .before .before .mean-rain-inflow .ensures) _) _ (first-held _ _ _) _ _ (l .before .loop .inv .1 .1 .1) (used l))
-    (e .work-element .ensures .verdict) (c .enum-told2 .given .1)
+    let k = c .before .before .before .before in
+    let a = made k in
+    let p = placed a in
+    let l = turn p in
+    turn-refused _ _ _ _ (start l .pre .0) (turned a) _ _ (k .work-element .ensures) (c .enum-told2 .given .1)
 
 add-i : tie.Need-add-i Inv-loop μ-loop
-add-i c = omega (arith, few (turn (summed (c .before .before .before .before .before .before))))
+add-i c =
+    let k = c .before .before .before .before in
+    omega (arith, few (turn (placed (made k))))
 
 loop-less : tie.Need-loop-less Inv-loop μ-loop
 loop-less c = search needs
 
 loop-again : tie.Need-loop-again Inv-loop μ-loop
 loop-again c =
-    let e = c .before .before .before .before .before .before in
-    let r = summed e in
-    let l = turn r in
-    let p = start l .pre in
-    let inv = l .before .loop .inv .1 in
-    let kept = e .work-element .kept .1 .1 .1 .1 in (
-      omega arith,
+    let k = c .before .before .before .before in
+    let a = made k in
+    let p = placed a in
+    let l = turn p in
+    let inv = l .before .loop .inv .1 in (
+      omega (arith, l .loop-test .taken),
       (
-        omega (arith, kept .0, inv .0),
-        (
-          omega (arith, kept .1 .0, inv .1 .0),
-          walked-again _ _ _ _ _ _ _ (course-of _ _ (p .0) _ _ (used l) _ _ _ _ (r .before .before .element-at .ensures) (p .1 .0) (r .sum-of .ensures .0) (e .before .before .before .before .mean-rain-inflow .ensures) _) (figures-again _ _) _ (first-held _ _ _) _ _ _ (inv .1 .1) _ _ (e .work-element .ensures .led (c .enum-told .given .1)) refl,
-        ),
+        omega (arith, k .work-element .kept, p .put-figures .kept, inv .0),
+        turn-again _ _ _ _ (start l .pre .0) (turned a) _ _ (k .work-element .ensures) (c .enum-told .given .1),
       ),
     )
 
-same-length-3 : tie.Need-same-length-3 Inv-loop μ-loop
-same-length-3 c = search needs
-
-same-length-4 : tie.Need-same-length-4 Inv-loop μ-loop
-same-length-4 c =
-    let b = c .before .before .before .before .before in
-    omega (arith, c .before .loop .inv .1 .1 .0, ap length (b .pre .1 .1 .1 .1))
+same-length-2 : tie.Need-same-length-2 Inv-loop μ-loop
+same-length-2 c = search needs
 
 returns-2 : tie.Need-returns-2 Inv-loop μ-loop
 returns-2 c =
-    let p = c .before .before .before .before .before .pre in
-    worked-accepted _ _ _ (p .0 .leads) _ _ _ (c .before .loop .inv .1 .1 .1) (omega (arith, c .before .loop .inv .0, c .loop-test .left, p .0 .elements))
+    let l = c .before in
+    let p = l .before .before .before .before .before .before .pre .0 .fits in
+    worked-accepted _ _ _ (p .leads) _ _ (l .loop .inv .1 .1) (omega (arith, l .loop .inv .0, c .loop-test .left, p .elements))
 
 pub work-leads-spec : {M : Type 1} → statement M
 work-leads-spec =
@@ -170,23 +197,27 @@ work-leads-spec =
     (tie.spec
     Inv-loop
     μ-loop
+    add-width
+    element-copy-out-steps
+    rain-count-requires
     loop-holds
-    element-at-requires
-    mul-place
-    element-copy-out-place
-    sum-of-requires
-    mean-rain-inflow-requires
-    mul-t18
-    element-copy-out-t24
+    figures-of-requires
+    add-own
+    mul-own
+    add-here
+    put-figures-requires
+    mul-lead-input
+    shared-slice-read-lead-input
+    lead-input-requires
+    mul-below
+    add-below
     work-element-requires
     enum-told
     enum-told-2
     same-length
-    same-length-2
     returns
     add-i
     loop-less
     loop-again
-    same-length-3
-    same-length-4
+    same-length-2
     returns-2)

@@ -29,7 +29,7 @@ add-put-small : tie.Need-add-put-small Inv-loop μ-loop
 add-put-small c = omega arith
 
 put-small-requires : tie.Need-put-small-requires Inv-loop μ-loop
-put-small-requires c κs = (omega arith, (omega arith, c .before .before .before .before .before .pre .1 .1 .1 .1 .1 .1 .1))
+put-small-requires c κs = (omega arith, (omega arith, c .before .before .before .before .before .pre .digits))
 
 loop-holds : tie.Need-loop-holds Inv-loop μ-loop
 loop-holds c = (omega arith, (omega arith, (refl, joined-none _ _ _)))
@@ -47,7 +47,15 @@ put-line-requires : tie.Need-put-line-requires Inv-loop μ-loop
 put-line-requires c κs =
     let q = c .before .before .before .before .before .before in
     let s = q .before .before .before .before .before .before in
-    (omega arith, (q .put-small .kept .0 ∙ s .pre .1 .1 .1 .1 .0, (omega arith, (omega arith, (omega arith, (fewer-under _ _ _ (omega arith) (s .pre .1 .1 .1 .1 .1 .1 .0), s .pre .1 .1 .1 .1 .1 .1 .1))))))
+    record {
+      room = omega arith;
+      whole = q .put-small .kept .0 ∙ s .pre .whole;
+      few = omega arith;
+      leadFew = omega arith;
+      there = omega arith;
+      under = fewer-under _ _ _ (omega arith) (s .pre .under);
+      digits = s .pre .digits;
+    }
 
 add-lead : tie.Need-add-lead Inv-loop μ-loop
 add-lead c = omega arith
@@ -75,11 +83,13 @@ returns c =
     let l = c .before .loop in
     let q = c .before .before .before .before in
     let s = q .before .before .before .before .before .before in
-    let e = q .put-small .ensures .0 in (
-      put-same (ap (λ text. linesAfter text (s .args .leads) (s .args .numbers .now) (s .args .i)) (e .holds))
-          (joined-all _ _ _ (omega arith) (l .inv .1 .1 .1)),
-      (omega arith, put-before e (omega (arith, s .pre))),
-    )
+    let e = q .put-small .ensures .0 in record {
+      text =
+          put-same (ap (λ text. linesAfter text (s .args .leads) (s .args .numbers .now) (s .args .i)) (e .holds))
+          (joined-all _ _ _ (omega arith) (l .inv .1 .1 .1));
+      within = omega arith;
+      kept = put-before e (omega (arith, s .pre));
+    }
 
 pub put-element-spec : {M : Type 1} → statement M
 put-element-spec =

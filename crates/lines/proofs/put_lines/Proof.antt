@@ -51,13 +51,16 @@ put-element-requires c κs =
     let p = t .before .before .before in
     let d = p .before .before in
     let s = d .before .before .before in
-    let rows = rows-within _ _ (s .args .leads) (t .loop-test .taken) in (
-      omega (arith, rows),
-      (
-        omega (arith, rows),
-        (omega arith, (s .pre .1 .1 .1 .0, (l .inv .1 .1 .1 .1 .0, (p .put-number .ensures .1, (fewer-under _ _ _ (omega (arith, rows)) (s .pre .1 .1 .1 .1), d .digit-pairs .ensures))))),
-      ),
-    )
+    let rows = rows-within _ _ (s .args .leads) (t .loop-test .taken) in record {
+      room = omega (arith, rows);
+      there = omega (arith, rows);
+      element = omega arith;
+      leadsFew = s .pre .leadsFew;
+      whole = l .inv .1 .1 .1 .1 .0;
+      few = p .put-number .ensures .1;
+      under = fewer-under _ _ _ (omega (arith, rows)) (s .pre .under);
+      digits = d .digit-pairs .ensures;
+    }
 
 add-i : tie.Need-add-i Inv-loop μ-loop
 add-i c = omega arith
@@ -80,8 +83,8 @@ loop-again c =
         (
           d .put-element .kept .0 ∙ l .inv .1 .1 .0,
           (
-            joined-more _ _ (l .inv .1 .1 .1 .0) (put-same (lines-start _ _ _ _ _ text) (e .0)),
-            (d .put-element .kept .1 .1 .1 .0 ∙ l .inv .1 .1 .1 .1 .0, rw (e .1 .1) text),
+            joined-more _ _ (l .inv .1 .1 .1 .0) (put-same (lines-start _ _ _ _ _ text) (e .text)),
+            (d .put-element .kept .1 .1 .1 .0 ∙ l .inv .1 .1 .1 .1 .0, rw (e .kept) text),
           ),
         ),
       ),

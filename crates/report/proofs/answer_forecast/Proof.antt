@@ -1,39 +1,62 @@
 -- `answer_forecast` meets its contract.
-use Prim.Native.Nat.{_+_, _≤_}
 use borrow.Author.Needs.{needs}
+use mathlib.Core.Path.{ap, _∙_}
+use Prim.Native.Nat.{_+_, _*_}
 use native.Mathlib.Omega.{arith}
-use Rattle.engine.proofs.EntryLaws.{forecast-state-kept, lent-as}
-use Rattle.report.proofs.FiguresLaws.{figures-count, figures-under}
-use Rattle.report.proofs.ReportLaws.{told-refusal, lines-told, forecast-refused, few-elements, few-leads, lines-few, plan-lines, plan-figures}
+use Rattle.text.proofs.PlacesLaws.{put-same}
+use Rattle.report.proofs.FiguresLaws.{forecast-shown, forecast-not-shown, shown-under, rest-of, part-room}
+use Rattle.report.proofs.ReportLaws.{text-as, refusal-printed, lines-printed, forecast-refused, few-elements, few-leads, lines-few, plan-lines, plan-under}
 use Rattle.report.proofs.answer_forecast.Statement.{statement}
 use Rattle.report.proofs.answer_forecast.Tie as tie
+use Rattle.report.proofs.answer_forecast.Reads as reads
+use Rattle.report.proofs.answer_forecast.Lts as lts
+use Rattle.leads.proofs.forecast_in.Reads as forecast-in-reads
+use Rattle.lines.proofs.put_lines.Reads as put-lines-reads
+use Rattle.report.proofs.answer_refusal.Reads as answer-refusal-reads
 
 forecast-in-requires : tie.Need-forecast-in-requires
 forecast-in-requires c κs = search needs
 
+element-copy-out-steps : tie.Need-element-copy-out-steps
+element-copy-out-steps c = search needs
+
+add-leads : tie.Need-add-leads
+add-leads c = search needs
+
+mul-first : tie.Need-mul-first
+mul-first c = search needs
+
 enum-told : tie.Need-enum-told
 enum-told c = search needs
 
-add-put-lines : tie.Need-add-put-lines
-add-put-lines c = search needs
+mul-put-lines : tie.Need-mul-put-lines
+mul-put-lines c = search needs
 
-abbrev start : tie.After-forecast-in → tie.Start
-start c = c .before .before .before .before .before
+sub-put-lines : tie.Need-sub-put-lines
+sub-put-lines c = search needs
+
+part-put-lines-start : tie.Need-part-put-lines-start
+part-put-lines-start c = search needs
+
+part-put-lines-end : tie.Need-part-put-lines-end
+part-put-lines-end c = search needs
 
 put-lines-requires : tie.Need-put-lines-requires
 put-lines-requires c κs =
     let m = c .before .before .before in
-    let f = m .before .before .before .before in
-    let p = start f .pre in
-    let few = lines-few _ _ (p .0) in
-    let lent = lent-as (forecast-state-kept _ _ _ (p .1 .0)) (f .forecast-in .ensures) in
-    let under = figures-under _ _ _ _ _ lent (m .enum-told .given .1) in (
-      omega (arith, few, p .1 .1 .1),
-      (
-        omega (arith, few, p .1 .1 .0, f .forecast-in .kept),
-        (few-elements _ _ (p .0), (omega (arith, few-leads _ _ (p .0)), plan-figures _ _ (p .0) _ under)),
-      ),
-    )
+    let f = m .before .before .before .before .before .before in
+    let s = f .before .before .before .before .before .before in
+    let p = s .pre in
+    let few = lines-few _ _ _ (p .planned) in
+    let leads = few-leads _ _ _ (p .planned) in
+    let shown = forecast-shown _ _ (p .stateKept) _ _ (f .forecast-in .ensures) _ (m .enum-told .given .1) (rest-of _ _ _ (ap (λ k. 4 * (k + 1)) (p .planned .leads))) in
+    record {
+      room = omega (arith, few, p .room);
+      there = part-room (f .forecast-in .last .1 .1 .1 .1 .0) _ _ leads few (f .forecast-in .kept .1 .1 .1 .1 .0 ∙ p .spaceFull);
+      elementsFew = few-elements _ _ _ (p .planned);
+      leadsFew = omega (arith, leads);
+      under = plan-under _ _ _ (p .planned) _ (shown-under _ _ _ shown);
+    }
 
 enum-known-answer : tie.Need-enum-known-answer
 enum-known-answer c = search needs
@@ -51,12 +74,12 @@ returns : tie.Need-returns
 returns c =
     let l = c .before .before in
     let m = l .before .before .before .before in
-    let f = m .before .before .before .before in
-    let p = start f .pre in
-    let few = lines-few _ _ (p .0) in
-    let lent = lent-as (forecast-state-kept _ _ _ (p .1 .0)) (f .forecast-in .ensures) in
-    lines-told _ _ _ _ _ _ lent (m .enum-told .given .1) (figures-count _ _ _) (plan-lines _ _ (p .0) _ _ (l .put-lines .ensures .0))
-    (omega (arith, few, l .put-lines .ensures .1))
+    let f = m .before .before .before .before .before .before in
+    let s = f .before .before .before .before .before .before in
+    let p = s .pre in
+    let few = lines-few _ _ _ (p .planned) in
+    let shown = forecast-shown _ _ (p .stateKept) _ _ (f .forecast-in .ensures) _ (m .enum-told .given .1) (rest-of _ _ _ (ap (λ k. 4 * (k + 1)) (p .planned .leads))) in
+    lines-printed _ _ _ _ shown (plan-lines _ _ _ (p .planned) _ _ (l .put-lines .ensures .0)) (omega (arith, few, l .put-lines .ensures .1))
 
 same-length-3 : tie.Need-same-length-3
 same-length-3 c = search needs
@@ -67,18 +90,25 @@ same-length-4 c = search needs
 returns-2 : tie.Need-returns-2
 returns-2 c =
     let r = c .before .before in
-    let k = r .before .before in
-    let f = k .before .before .before .before .before in
-    let lent = lent-as (forecast-state-kept _ _ _ (start f .pre .1 .0)) (f .forecast-in .ensures) in
-    told-refusal _ _ _ (forecast-refused _ _ _ _ _ lent (k .before .answer .given .1)) (r .answer-refusal .ensures)
+    let k = r .before .before .before in
+    let f = k .before .before .before .before .before .before in
+    let s = f .before .before .before .before .before .before in
+    let gone = forecast-not-shown _ _ (s .pre .stateKept) _ _ (f .forecast-in .ensures) (k .answer .given .1) in
+    text-as (forecast-refused _ _ _ gone) (refusal-printed _ _ (r .answer-refusal .ensures))
 
 pub answer-forecast-spec : {M : Type 1} → statement M
 answer-forecast-spec =
     tie.close
     (tie.spec
     forecast-in-requires
+    element-copy-out-steps
+    add-leads
+    mul-first
     enum-told
-    add-put-lines
+    mul-put-lines
+    sub-put-lines
+    part-put-lines-start
+    part-put-lines-end
     put-lines-requires
     enum-known-answer
     answer-refusal-requires

@@ -1,6 +1,6 @@
 -- `answer_next` meets its contract.
-use mathlib.Core.Path.{sym}
 use borrow.Author.Needs.{needs}
+use mathlib.Core.Path.{sym}
 use lib.Seq.{length-take-le}
 use Rattle.report.proofs.ReportLaws.{reported-on}
 use Rattle.report.proofs.answer_next.Statement.{statement}
@@ -24,7 +24,7 @@ same-length-2 c = search needs
 returns : tie.Need-returns
 returns c =
     let r = c .before .before .before .before in
-    let e = r .before .before .before .before .record-length .ensures in
+    let e = r .before .before .before .before .before .record-length .ensures in
     reported-on _ _ _ _ (sym (e .bytes)) (r .answer-record .ensures)
 
 pub answer-next-spec : {M : Type 1} → statement M

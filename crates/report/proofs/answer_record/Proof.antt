@@ -1,9 +1,7 @@
 -- `answer_record` meets its contract.
-use mathlib.Core.Path.{refl}
 use borrow.Author.Needs.{needs}
-use Rattle.report.specs.Records.{recordOnPrinted}
-use Rattle.engine.proofs.NextLaws.{answered-fits}
-use Rattle.report.proofs.ReportLaws.{told-refusal, with-state, forecast-state, refusal-state, step-accepted, step-refused}
+use Rattle.entries.proofs.NextLaws.{answered-fits}
+use Rattle.report.proofs.ReportLaws.{step-length, reported-accepted, reported-refused}
 use Rattle.report.proofs.answer_record.Statement.{statement}
 use Rattle.report.proofs.answer_record.Tie as tie
 
@@ -15,13 +13,24 @@ enum-told c = search needs
 
 answer-forecast-requires : tie.Need-answer-forecast-requires
 answer-forecast-requires c κs =
-    let m = c .before .before in
-    let w = m .before .before .before in
-    let p = w .before .before .before .before .before .pre in
-    (p .0, (answered-fits _ _ _ _ (p .0 .table .bounds) (w .step-from .ensures) (m .enum-told .given .1), p .1 .1))
+    let m = c .before .before .before in
+    let w = m .before .before in
+    let s = w .before .before .before .before .before .before .before in
+    let p = s .pre in
+    let v = w .step-from .ensures in
+    record {
+      planned = p .planned;
+      stateWhole = step-length _ _ _ _ _ v (p .planned .table .bounds) (p .stateWhole);
+      stateKept = answered-fits _ _ _ _ (p .planned .table .bounds) (p .stateWhole) _ v (m .enum-told .given .1);
+      spaceFull = p .spaceFull;
+      room = p .room;
+    }
 
 enum-known-verdict : tie.Need-enum-known-verdict
 enum-known-verdict c = search needs
+
+element-copy-out-answer-refusal : tie.Need-element-copy-out-answer-refusal
+element-copy-out-answer-refusal c = search needs
 
 answer-refusal-requires : tie.Need-answer-refusal-requires
 answer-refusal-requires c κs = search needs
@@ -33,25 +42,21 @@ same-length-2 : tie.Need-same-length-2
 same-length-2 c = search needs
 
 returns : tie.Need-returns
-unfolding recordOnPrinted
 returns c =
     let f = c .before .before .before .before in
-    let m = f .before .before .before in
-    let w = m .before .before .before in
-    with-state _ _ (f .answer-forecast .ensures) (forecast-state _ _ _)
-    (step-accepted _ _ _ _ _ (w .step-from .ensures) (m .enum-told .given .1))
+    let m = f .before .before .before .before in
+    let w = m .before .before in
+    reported-accepted _ _ _ _ _ (w .step-from .ensures) (m .enum-told .given .1) (f .answer-forecast .ensures)
 
 same-length-3 : tie.Need-same-length-3
 same-length-3 c = search needs
 
 returns-2 : tie.Need-returns-2
-unfolding recordOnPrinted
 returns-2 c =
     let r = c .before .before in
-    let k = r .before .before in
-    let w = k .before .before .before .before in
-    with-state _ _ (told-refusal _ _ _ refl (r .answer-refusal .ensures)) (refusal-state _ _)
-    (step-refused _ _ _ _ _ _ (w .step-from .ensures) (k .before .verdict .given .1))
+    let v = r .before .before .before .before in
+    let w = v .before .before in
+    reported-refused _ _ _ _ _ (w .step-from .ensures) _ (v .verdict .given .1) (r .answer-refusal .ensures)
 
 pub answer-record-spec : {M : Type 1} → statement M
 answer-record-spec =
@@ -61,6 +66,7 @@ answer-record-spec =
     enum-told
     answer-forecast-requires
     enum-known-verdict
+    element-copy-out-answer-refusal
     answer-refusal-requires
     same-length
     same-length-2

@@ -1,5 +1,5 @@
 -- `answer_refusal` meets its contract.
-use Rattle.report.proofs.ReportLaws.{refusal-told}
+use Rattle.report.proofs.ReportLaws.{refusal-text}
 use borrow.Author.Needs.{needs}
 use Rattle.report.proofs.answer_refusal.Statement.{statement}
 use Rattle.report.proofs.answer_refusal.Tie as tie
@@ -16,7 +16,7 @@ same-length c = c .before .before .put-refusal .kept .0
 returns : tie.Need-returns
 returns c =
     let p = c .before .before in
-    refusal-told _ _ _ _ (p .before .before .code .ensures) (p .put-refusal .ensures .0) (p .put-refusal .ensures .1)
+    refusal-text _ _ _ _ (p .before .before .code .ensures) (p .put-refusal .ensures .0) (p .put-refusal .ensures .1)
 
 pub answer-refusal-spec : {M : Type 1} → statement M
 answer-refusal-spec = tie.close (tie.spec code-requires put-refusal-requires same-length returns)

@@ -3,6 +3,7 @@ use Prim.Native.Nat.{_≤_, _<_, _-_}
 use mathlib.Core.Path.{_≡_, ap, _∙_}
 use borrow.Author.Needs.{needs}
 use native.Mathlib.Omega.{arith}
+use Rattle.sizes.specs.Sizes.{mostElements}
 use Rattle.fields.specs.Ranges.{allBelow}
 use Rattle.fields.proofs.RangeLaws.{all-none, all-more}
 use Rattle.table.specs.InUse.{tableIn}
@@ -17,9 +18,6 @@ Inv-loop table n state fit₀ i₀ fit i = (i ≤ n) × (fit ≡ allBelow (place
 abbrev μ-loop : tie.MeasureT-loop
 μ-loop table n state fit₀ i₀ fit i = n - i
 
-loop-holds : tie.Need-loop-holds Inv-loop μ-loop
-loop-holds c = (omega arith, all-none _)
-
 -- an element of the loop is in use
 abbrev start : tie.In-loop Inv-loop μ-loop → tie.Start Inv-loop μ-loop
 start c = c .before .before .before
@@ -27,32 +25,29 @@ start c = c .before .before .before
 used : (c : tie.In-loop Inv-loop μ-loop) → c .before .loop .i < tableIn (start c .args .table .now) .elements
 used c = omega (arith, start c .pre .1)
 
-within : (c : tie.In-loop Inv-loop μ-loop) → c .before .loop .i < 64
+within : (c : tie.In-loop Inv-loop μ-loop) → c .before .loop .i < mostElements
 within c = omega (arith, used c, start c .pre .0 .bounds .elementsMost)
+
+loop-holds : tie.Need-loop-holds Inv-loop μ-loop
+loop-holds c = (omega arith, all-none _)
 
 kind-at-requires : tie.Need-kind-at-requires Inv-loop μ-loop
 kind-at-requires c κs = element-there _ (start c .pre .0) (used c)
 
-mul-place-fits : tie.Need-mul-place-fits Inv-loop μ-loop
-mul-place-fits c = omega (arith, within (c .before))
-
-element-copy-out-place-fits : tie.Need-element-copy-out-place-fits Inv-loop μ-loop
-element-copy-out-place-fits c = within (c .before)
-
 place-fits-requires : tie.Need-place-fits-requires Inv-loop μ-loop
-place-fits-requires c κs = search needs
+place-fits-requires c κs = within (c .before)
 
 add-i : tie.Need-add-i Inv-loop μ-loop
-add-i c = omega (arith, within (c .before .before .before))
+add-i c = omega (arith, within (c .before .before))
 
 loop-less : tie.Need-loop-less Inv-loop μ-loop
 loop-less c = search needs
 
 loop-again : tie.Need-loop-again Inv-loop μ-loop
 loop-again c =
-    let l = c .before .before .before in (
+    let l = c .before .before in (
       omega arith,
-      all-more _ _ (l .before .loop .inv .1) (place-tested _ _ _ (used l) (c .before .before .kind-at .ensures) (c .place-fits .ensures)),
+      all-more _ _ (l .before .loop .inv .1) (place-tested _ _ _ (used l) (c .before .kind-at .ensures) (c .place-fits .ensures)),
     )
 
 returns : tie.Need-returns Inv-loop μ-loop
@@ -69,8 +64,6 @@ places-fit-spec =
     μ-loop
     loop-holds
     kind-at-requires
-    mul-place-fits
-    element-copy-out-place-fits
     place-fits-requires
     add-i
     loop-less

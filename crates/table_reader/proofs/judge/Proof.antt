@@ -1,10 +1,13 @@
 -- `judge` meets its contract.
 use Prim.{Unit}
 use Prim.Native.Nat.{ℕ, _+_, _*_, _≤_}
+use mathlib.Core.Bool.{true}
 use mathlib.Core.Path.{_≡_}
+use borrow.Author.Tests.{not-false}
 use mathlib.Core.List.{List}
 use native.Mathlib.Omega.{arith}
 use lib.ListN.{length}
+use Rattle.sizes.specs.Sizes.{mostElements}
 use Rattle.refusal.specs.Answers.{accepted}
 use Rattle.table.specs.declared.Counts.{Counts}
 use Rattle.table.specs.Tables.{tableOf}
@@ -83,7 +86,7 @@ left c = header-left _ _ (header c)
 -- all elements and gauges are there
 there :
     (c : tie.Else3)
-    → (counts c .elements ≤ 64)
+    → (counts c .elements ≤ mostElements)
     × ((counts c .gauges ≤ 16) × (26 * counts c .elements + 46 * counts c .gauges + 10 ≤ length (bytes c)))
 there c =
     let b = counts-bounds _ (header c .counts) in
@@ -92,59 +95,61 @@ there c =
     let whole = all-there _ (header c .length) (header c .size) in
     (rw n (b .elementsMost), (rw m (b .gaugesMost), omega arith))
 
-elements-fit-requires : tie.Need-elements-fit-requires
-elements-fit-requires c κs = (there c .0, omega (arith, there c .1 .1))
+judge-elements-requires : tie.Need-judge-elements-requires
+judge-elements-requires c κs = (there c .0, omega (arith, there c .1 .1))
 
-elements : (c : tie.After-elements-fit) → c .elements-fit .result ≡ elementsFit (tableOf (bytes (c .before)))
-unfolding tableOf
-elements c =
-    let held = start (c .before) .pre .1 in
-    elements-judged _ (held .step) (held .elements) (c .elements-fit .ensures)
+-- rules 5 and 6 on the elements
+module _ (c : tie.After-judge-elements) where
+  elements : c .judge-elements .result .fit ≡ elementsFit (tableOf (bytes (c .before)))
+  unfolding tableOf
+  elements =
+      let held = start (c .before) .pre .1 in
+      elements-judged _ (held .step) (held .elements) (c .judge-elements .ensures .fit)
+
+  downs : c .judge-elements .result .fit ≡ true → c .judge-elements .result .later ≡ downsFit (tableOf (bytes (c .before)))
+  unfolding tableOf
+  downs fit = downs-judged _ (start (c .before) .pre .1 .elements) (c .judge-elements .ensures .later fit)
 
 returns-4 : tie.Need-returns-4
-returns-4 c = rw (left (c .before .before), broken (elements (c .before)) (c .if4 .taken))
+returns-4 c =
+    let j = c .before .before in
+    rw (left (j .before), broken (elements j) (c .if4 .taken))
 
-downs-fit-requires : tie.Need-downs-fit-requires
-downs-fit-requires c κs =
-    let t = there (c .before .before) in
-    (t .0, omega (arith, t .1 .1))
+-- all elements keep rule 5
+module _ (c : tie.Else4) where
+  fits : elementsFit (tableOf (bytes (c .before .before .before))) ≡ true
+  fits = kept (elements (c .before .before)) (c .if4 .left)
 
-downs : (c : tie.After-downs-fit) → c .downs-fit .result ≡ downsFit (tableOf (bytes (c .before .before .before)))
-unfolding tableOf
-downs c = downs-judged _ (start (c .before .before .before) .pre .1 .elements) (c .downs-fit .ensures)
+  later : c .before .before .judge-elements .result .later ≡ downsFit (tableOf (bytes (c .before .before .before)))
+  later = downs (c .before .before) (not-false _ (c .if4 .left))
 
 returns-5 : tie.Need-returns-5
 returns-5 c =
     let five = c .before .before in
-    let fits = kept (elements (five .before)) (five .if4 .left) in
-    rw (left (five .before .before), fits, broken (downs (c .before)) (c .if5 .taken))
+    rw (left (five .before .before .before), fits five, broken (later five) (c .if5 .taken))
 
 gauges-fit-requires : tie.Need-gauges-fit-requires
-gauges-fit-requires c κs = there (c .before .before .before .before)
+gauges-fit-requires c κs = there (c .before .before .before .before .before)
 
 gauges :
     (c : tie.After-gauges-fit)
-    → c .gauges-fit .result ≡ gaugesFit (tableOf (bytes (c .before .before .before .before .before)))
+    → c .gauges-fit .result ≡ gaugesFit (tableOf (bytes (c .before .before .before .before .before .before)))
 unfolding tableOf
 gauges c =
-    let held = start (c .before .before .before .before .before) .pre .1 in
+    let held = start (c .before .before .before .before .before .before) .pre .1 in
     gauges-judged _ (held .elements) (held .gauges) (c .gauges-fit .ensures)
 
 returns-6 : tie.Need-returns-6
 returns-6 c =
     let six = c .before .before in
     let five = six .before .before in
-    let fits = kept (elements (five .before)) (five .if4 .left) in
-    let later = kept (downs (six .before)) (six .if5 .left) in
-    rw (left (five .before .before), fits, later, broken (gauges (c .before)) (c .if6 .taken))
+    rw (left (five .before .before .before), fits five, kept (later five) (six .if5 .left), broken (gauges (c .before)) (c .if6 .taken))
 
 returns-7 : tie.Need-returns-7
 returns-7 c =
     let six = c .before .before in
     let five = six .before .before in
-    let fits = kept (elements (five .before)) (five .if4 .left) in
-    let later = kept (downs (six .before)) (six .if5 .left) in
-    rw (left (five .before .before), fits, later, kept (gauges (c .before)) (c .if6 .left))
+    rw (left (five .before .before .before), fits five, kept (later five) (six .if5 .left), kept (gauges (c .before)) (c .if6 .left))
 
 pub judge-spec : {M : Type 1} → statement M
 judge-spec =
@@ -156,9 +161,8 @@ judge-spec =
     returns-2
     size-fits-requires
     returns-3
-    elements-fit-requires
+    judge-elements-requires
     returns-4
-    downs-fit-requires
     returns-5
     gauges-fit-requires
     returns-6

@@ -1,0 +1,23 @@
+-- `in_medium` meets its contract.
+use borrow.Author.Needs.{needs}
+use Rattle.leads.proofs.AnswerLaws.{zeros-cleared}
+use Rattle.leads.proofs.in_medium.Statement.{statement}
+use Rattle.leads.proofs.in_medium.Tie as tie
+
+slice-aggregate-copy-out : tie.Need-slice-aggregate-copy-out
+slice-aggregate-copy-out c = search needs
+
+copy-out-requires : tie.Need-copy-out-requires
+copy-out-requires c κs =
+    let p = c .before .before .before .before .before .pre in
+    (p .0, (zeros-cleared _ _ (p .1 .0), p .1 .1))
+
+same-length : tie.Need-same-length
+same-length c = search needs
+
+returns : tie.Need-returns
+returns c = search needs
+
+pub in-medium-spec : {M : Type 1} → statement M
+in-medium-spec =
+    tie.close (tie.spec slice-aggregate-copy-out copy-out-requires same-length returns)

@@ -1,2 +1,0 @@
-pub mod Start
-pub mod Opens

@@ -1,0 +1,47 @@
+-- `river_check` meets its contract.
+use borrow.Author.Needs.{needs}
+use Rattle.table.proofs.HeldLaws.{table-accepted, table-refused}
+use Rattle.river.proofs.ReplyLaws.{plan-replied, plan-refused}
+use Rattle.river.proofs.river_check.Statement.{statement}
+use Rattle.river.proofs.river_check.Tie as tie
+
+read-requires : tie.Need-read-requires
+read-requires c κs = search needs
+
+enum-told : tie.Need-enum-told
+enum-told c = search needs
+
+plan-of-requires : tie.Need-plan-of-requires
+plan-of-requires c κs = let k = table-accepted _ _ (c .before .before .read .ensures) (c .enum-told .given .1) in (k .table, k .counts)
+
+enum-known-verdict : tie.Need-enum-known-verdict
+enum-known-verdict c = search needs
+
+code-requires : tie.Need-code-requires
+code-requires c κs = search needs
+
+no-plan-requires : tie.Need-no-plan-requires
+no-plan-requires c κs = search needs
+
+returns : tie.Need-returns
+returns c =
+    let e = c .before in
+    plan-replied _ _ (table-accepted _ _ (e .before .before .read .ensures) (e .enum-told .given .1) .kept) (c .plan-of .ensures)
+
+returns-2 : tie.Need-returns-2
+returns-2 c =
+    let v = c .before .before .before in
+    plan-refused _ _ _ _ (table-refused _ _ (v .before .before .read .ensures) (v .verdict .given .1)) (c .before .code .ensures) (c .no-plan .ensures)
+
+pub river-check-spec : {M : Type 1} → statement M
+river-check-spec =
+    tie.close
+    (tie.spec
+    read-requires
+    enum-told
+    plan-of-requires
+    enum-known-verdict
+    code-requires
+    no-plan-requires
+    returns
+    returns-2)

@@ -1,0 +1,69 @@
+-- Document 01, Numbers for no: an entry's answer as numbers, for programs in C or Rust.
+use Prim.Native.Nat.{ℕ, _+_, _*_}
+use mathlib.Core.List.{List}
+use mathlib.Core.Path.{_≡_}
+use Rattle.refusal.specs.Answers.{Answer, accepted, refused}
+use Rattle.method.specs.declared.Figures.{Figures}
+use Rattle.table.specs.Tables.{TableValues}
+use Rattle.record.specs.Records.{basinCount}
+use Rattle.state.specs.States.{State}
+use Rattle.state.specs.Answers.{stateAfter}
+use Rattle.network.specs.Lent.{countWritten, lentAfter}
+use Rattle.river.specs.declared.TablePlan.{TablePlan}
+use Rattle.river.specs.declared.Written.{Written}
+
+-- the version of the interface
+abbrev pub version : ℕ
+version = 2
+
+-- the number for no; 0 where the call is accepted
+unfoldable pub refusalOf : {A : Type 0} → Answer A → ℕ
+refusalOf (accepted a) = 0
+refusalOf (refused n) = n
+
+-- what a table asks the host to lend: "1 + 2 × basins + 2 × M" bytes after the two of a record's length, and "4 × N × (L + 1)"
+-- numbers of a forecast; and T
+unfoldable pub planOf : TableValues → TablePlan
+planOf t =
+    record {
+      refusal = 0;
+      elements = t .elements;
+      leads = t .leads;
+      gauges = t .gauges;
+      basins = basinCount t;
+      «record_bytes» = 3 + 2 * basinCount t + 2 * t .gauges;
+      «forecast_numbers» = 4 * t .elements * (t .leads + 1);
+      «step_minutes» = t .step;
+    }
+
+unfoldable pub noPlan : ℕ → TablePlan
+noPlan n =
+    record {
+      refusal = n;
+      elements = 0;
+      leads = 0;
+      gauges = 0;
+      basins = 0;
+      «record_bytes» = 0;
+      «forecast_numbers» = 0;
+      «step_minutes» = 0;
+    }
+
+unfoldable pub planReply : Answer TableValues → TablePlan
+planReply (accepted t) = planOf t
+planReply (refused n) = noPlan n
+
+-- "The lowest that applies to a call is returned alone; state and lent memory stay as before."
+pub record StateReplied (r : ℕ) (after : State) (answer : Answer State) (before : State) : Type 0 where
+  pub refusal : r ≡ refusalOf answer
+  pub state : after ≡ stateAfter answer before
+
+-- "the count written is part of the answer"; it is 0 where the call is refused
+unfoldable pub writtenReply : Answer ℕ → Written
+writtenReply (accepted count) = record { refusal = 0; count = count }
+writtenReply (refused n) = record { refusal = n; count = 0 }
+
+-- a forecast's reply and the lent numbers that it leaves
+pub record ForecastReplied (r : Written) (after : List ℕ) (answer : Answer (List Figures)) (before : List ℕ) : Type 0 where
+  pub reply : r ≡ writtenReply (countWritten answer)
+  pub numbers : after ≡ lentAfter answer before

@@ -1,0 +1,150 @@
+// The engine for programs in C or Rust: document 01's entries on memory that the host lends. include/river.h declares them for C.
+ghost use mathlib.Core.Path.{_≡_};
+ghost use lib.ListN.{length};
+ghost use Rattle.refusal.specs.Answers.{accepted};
+ghost use Rattle.refusal.specs.Verdicts.{verdictAnswer};
+ghost use Rattle.table.specs.Bounds.{AcceptedTable};
+ghost use Rattle.table.specs.Decoded.{CountsHeld};
+ghost use Rattle.table.specs.InUse.{tableIn};
+ghost use Rattle.table.specs.Rules.{tableRules};
+ghost use Rattle.network.specs.Lent.{countAnswer};
+ghost use Rattle.entries.specs.Entries.{startAnswer, stepAnswer, forecastAnswer};
+ghost use Rattle.river.specs.Replies.{version, refusalOf, planOf, noPlan, planReply, writtenReply, StateReplied, ForecastReplied};
+use basins::count_basins;
+use network::ForecastAnswer;
+use refusal::Verdict;
+use sizes::STATE_NUMBERS;
+use table::Counts;
+
+// 0, or the number for no, and what a table asks the host to lend: its counts, the bytes of a record, the numbers of a forecast; and its
+// step in minutes.
+#[repr(C)]
+pub struct TablePlan {
+    pub refusal: u64,
+    pub elements: usize,
+    pub leads: usize,
+    pub gauges: usize,
+    pub basins: usize,
+    pub record_bytes: usize,
+    pub forecast_numbers: usize,
+    pub step_minutes: u64,
+}
+
+// 0, or the number for no, and how many numbers were written.
+#[repr(C)]
+pub struct Written {
+    pub refusal: u64,
+    pub count: usize,
+}
+
+fn refusal_of(verdict: Verdict) -> u64
+    ensures { λ r. ⌜ r ≡ refusalOf (verdictAnswer verdict) ⌝ }
+{
+    match verdict {
+        Verdict::Accepted => 0,
+        Verdict::Refused(refusal) => refusal.code(),
+    }
+}
+
+fn written_reply(answer: ForecastAnswer) -> Written
+    ensures { λ r. ⌜ r ≡ writtenReply (countAnswer answer) ⌝ }
+{
+    match answer {
+        ForecastAnswer::Accepted(count) => Written { refusal: 0, count },
+        ForecastAnswer::Refused(refusal) => {
+            let number = refusal.code();
+            Written {
+                refusal: number,
+                count: 0,
+            }
+        }
+    }
+}
+
+// What the bytes of an accepted table with these counts ask for.
+fn plan_of(table: &[u8], counts: Counts) -> TablePlan
+    requires { ⌜ AcceptedTable (now table) × CountsHeld counts (tableIn (now table)) ⌝ }
+    ensures { λ r. ⌜ r ≡ planOf (tableIn (now (table .entry))) ⌝ }
+{
+    let elements = counts.elements;
+    let leads = counts.leads;
+    let gauges = counts.gauges;
+    let basins = count_basins(table, elements);
+    TablePlan {
+        refusal: 0,
+        elements,
+        leads,
+        gauges,
+        basins,
+        record_bytes: 3 + 2 * basins + 2 * gauges,
+        forecast_numbers: 4 * elements * (leads + 1),
+        step_minutes: counts.step,
+    }
+}
+
+fn no_plan(number: u64) -> TablePlan
+    ensures { λ r. ⌜ r ≡ noPlan number ⌝ }
+{
+    TablePlan {
+        refusal: number,
+        elements: 0,
+        leads: 0,
+        gauges: 0,
+        basins: 0,
+        record_bytes: 0,
+        forecast_numbers: 0,
+        step_minutes: 0,
+    }
+}
+
+// The version of this interface, RIVER_VERSION of include/river.h.
+#[no_mangle]
+pub extern "C" fn river_version() -> u64
+    ensures { λ r. ⌜ r ≡ version ⌝ }
+{
+    2
+}
+
+// Judges the bytes of a table: rules 1 to 7.
+#[no_mangle]
+pub extern "C" fn river_check(table: &[u8]) -> TablePlan
+    ensures { λ r. ⌜ r ≡ planReply (tableRules (now (table .entry)) (accepted (tableIn (now (table .entry))))) ⌝ }
+{
+    let read = table_reader::read(table);
+    let verdict = read.verdict;
+    match verdict {
+        Verdict::Accepted => plan_of(table, read.counts),
+        Verdict::Refused(refusal) => no_plan(refusal.code()),
+    }
+}
+
+// Starts a river on the bytes of a table, from any state.
+#[no_mangle]
+pub extern "C" fn river_start(table: &[u8], state: &mut [u64; STATE_NUMBERS]) -> u64
+    ensures { λ r. ⌜ StateReplied r (now (state .exit)) (startAnswer (now (table .entry)) (now (state .entry))) (now (state .entry)) ⌝ }
+{
+    let verdict = engine::start(table, state);
+    refusal_of(verdict)
+}
+
+// A step on the bytes of a table and of a record.
+#[no_mangle]
+pub extern "C" fn river_step(table: &[u8], bytes: &[u8], state: &mut [u64; STATE_NUMBERS]) -> u64
+    ensures { λ r. ⌜ StateReplied r (now (state .exit)) (stepAnswer (now (table .entry)) (now (bytes .entry)) (now (state .entry))) (now (state .entry)) ⌝ }
+{
+    let verdict = engine::step(table, bytes, state);
+    refusal_of(verdict)
+}
+
+// A forecast on the bytes of a table into lent space.
+#[no_mangle]
+pub extern "C" fn river_forecast(
+    table: &[u8],
+    state: &[u64; STATE_NUMBERS],
+    out: &mut [u64],
+) -> Written
+    ensures { λ r. ⌜ ForecastReplied r (now (out .exit)) (forecastAnswer (now (table .entry)) (now (state .entry)) (length (now (out .entry)))) (now (out .entry)) ⌝ }
+{
+    let answer = engine::forecast(table, state, &mut *out);
+    written_reply(answer)
+}

@@ -1,0 +1,55 @@
+-- Document 01: the largest counts that it allows, and the sizes that follow from them; nowhere else do these numbers stand.
+use Prim.Native.Nat.{ℕ, _+_, _*_}
+
+-- "L 1 to 12; N 1 to 64; M 0 to 16"
+abbrev pub mostElements : ℕ
+mostElements = 64
+
+abbrev pub mostLeads : ℕ
+mostLeads = 12
+
+abbrev pub mostGauges : ℕ
+mostGauges = 16
+
+-- "The state keeps N, the step count, each element's discharge, variance and two margins, and each basin's last three rains"
+abbrev pub placeNumbers : ℕ
+placeNumbers = 7
+
+abbrev pub stateNumbers : ℕ
+stateNumbers = 2 + placeNumbers * mostElements
+
+-- "4 × N × (L + 1) numbers", at most
+abbrev pub answerNumbers : ℕ
+answerNumbers = 4 * mostElements * (mostLeads + 1)
+
+-- what the gauges observed: a discharge and a noise each
+abbrev pub observedNumbers : ℕ
+observedNumbers = 2 * mostGauges
+
+-- the working space of a step: four figures of each element, and of what leaves the river
+abbrev pub smallElements : ℕ
+smallElements = 8
+
+abbrev pub smallStepSpace : ℕ
+smallStepSpace = 4 * (smallElements + 1)
+
+abbrev pub stepSpace : ℕ
+stepSpace = 4 * (mostElements + 1)
+
+-- the working space of a forecast: the same at leads 0 to L
+abbrev pub smallForecastSpace : ℕ
+smallForecastSpace = 128
+
+abbrev pub mediumForecastSpace : ℕ
+mediumForecastSpace = 520
+
+abbrev pub forecastSpace : ℕ
+forecastSpace = 4 * (mostElements + 1) * (mostLeads + 1)
+
+-- the longest table: "2,410 bytes in all"
+abbrev pub tableBytes : ℕ
+tableBytes = 10 + 26 * mostElements + 46 * mostGauges
+
+-- the longest text that a record prints: 147 bytes a line
+abbrev pub textBytes : ℕ
+textBytes = 147 * (mostElements * (mostLeads + 1))

@@ -1,0 +1,40 @@
+// The largest counts that document 01 allows, and the sizes that follow from them; nowhere else do these numbers stand.
+// specs/Sizes.antt has the same for the definitions.
+
+// N, L and M at most.
+pub const MOST_ELEMENTS: usize = 64;
+
+pub const MOST_LEADS: usize = 12;
+
+pub const MOST_GAUGES: usize = 16;
+
+// The numbers of one place of a state (four figures, three rains), and of a state: N, the step count and its places.
+pub const PLACE_NUMBERS: usize = 7;
+
+pub const STATE_NUMBERS: usize = 2 + PLACE_NUMBERS * MOST_ELEMENTS;
+
+// The numbers of the largest forecast: four figures of each element at leads 0 to L.
+pub const ANSWER_NUMBERS: usize = 4 * MOST_ELEMENTS * (MOST_LEADS + 1);
+
+// The numbers of what the gauges observed: a discharge and a noise each.
+pub const OBSERVED_NUMBERS: usize = 2 * MOST_GAUGES;
+
+// The numbers of the working space of a step, for a small river and for any: four figures of each element, and of what leaves the river.
+pub const SMALL_ELEMENTS: usize = 8;
+
+pub const SMALL_STEP_SPACE: usize = 4 * (SMALL_ELEMENTS + 1);
+
+pub const STEP_SPACE: usize = 4 * (MOST_ELEMENTS + 1);
+
+// The numbers of the working space of a forecast, the same at leads 0 to L: small, medium (eight elements at all leads, or all elements
+// at one lead), and for any.
+pub const SMALL_FORECAST_SPACE: usize = 128;
+
+pub const MEDIUM_FORECAST_SPACE: usize = 520;
+
+pub const FORECAST_SPACE: usize = 4 * (MOST_ELEMENTS + 1) * (MOST_LEADS + 1);
+
+// The bytes of the longest table, and of the longest text that a record prints: 147 for each line.
+pub const TABLE_BYTES: usize = 10 + 26 * MOST_ELEMENTS + 46 * MOST_GAUGES;
+
+pub const TEXT_BYTES: usize = 147 * (MOST_ELEMENTS * (MOST_LEADS + 1));

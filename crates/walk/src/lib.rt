@@ -1,0 +1,1 @@
+// The walk down the network, for any kind of cell: definitions and theorems only.
