@@ -24,6 +24,7 @@ use sizes::MOST_ELEMENTS;
 use sizes::STATE_NUMBERS;
 use sizes::TABLE_BYTES;
 use table_input::started_on_input;
+use text::digit_fours;
 
 // What the program holds before the first record.
 fn first_buffers() -> Buffers
@@ -48,9 +49,10 @@ fn serve(
     state: &mut [u64; STATE_NUMBERS],
     input: &mut [u8],
     space: &mut [u64],
+    fours: &[u32],
     out: &mut [u8],
 )
-    requires { ⌜ RecordReady (now table) plan (now weights) (now state) (now space) (now out) 0 × (length (now out) ≡ textBuffer) ⌝ }
+    requires { ⌜ RecordReady (now table) plan (now weights) (now state) (now space) (now fours) (now out) 0 × (length (now out) ≡ textBuffer) ⌝ }
 {
     let mut held = first_buffers();
     let mut count: u64 = 0;
@@ -70,6 +72,7 @@ fn serve(
             &input[from..have],
             &mut *state,
             &mut *space,
+            fours,
             &mut *out,
             held.at,
         );
@@ -142,15 +145,19 @@ fn run(table: &[u8], input: &mut [u8], space: &mut [u64], out: &mut [u8])
     let plan = started.plan;
     let length = started.length;
     match verdict {
-        Verdict::Accepted => serve(
-            &table[..length],
-            plan,
-            &weights,
-            &mut state,
-            &mut *input,
-            &mut *space,
-            &mut *out,
-        ),
+        Verdict::Accepted => {
+            let fours = digit_fours();
+            serve(
+                &table[..length],
+                plan,
+                &weights,
+                &mut state,
+                &mut *input,
+                &mut *space,
+                &fours,
+                &mut *out,
+            );
+        }
         Verdict::Refused(refusal) => refuse(refusal),
     }
 }

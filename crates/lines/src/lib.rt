@@ -10,7 +10,6 @@ ghost use Rattle.lines.specs.Printed.{refusalLine, answerLines};
 ghost use Rattle.lines.specs.Ready.{FiguresReady, LineReady, ElementReady, ElementPut, LinesReady};
 ghost use Rattle.lines.specs.Starts.{figuresFrom, lineAfter, linesAfter};
 use figure_text::put_figure;
-use text::digit_pairs;
 use text::put_bytes;
 use text::put_number;
 use text::put_small;
@@ -39,14 +38,14 @@ fn put_start(out: &mut [u8], at: usize, start: &[u8], size: usize) -> usize
 
 // The four figures from a place on, which end a line, put at a place; the place after them. Four calls, which are compiled into the
 // loop over the lines.
-fn put_figures(out: &mut [u8], at: usize, numbers: &[u64], from: usize, pairs: &[u16]) -> usize
-    requires { ⌜ FiguresReady (now out) at (now numbers) from (now pairs) ⌝ }
+fn put_figures(out: &mut [u8], at: usize, numbers: &[u64], from: usize, fours: &[u32]) -> usize
+    requires { ⌜ FiguresReady (now out) at (now numbers) from (now fours) ⌝ }
     ensures { λ r. ⌜ Put (now (out .entry)) at (line (figuresFrom (now (numbers .entry)) from)) (now (out .exit)) r × (r ≤ at + 84) ⌝ }
 {
-    let p1 = put_figure(&mut *out, at, numbers[from] as u32, b' ', pairs);
-    let p2 = put_figure(&mut *out, p1, numbers[from + 1] as u32, b' ', pairs);
-    let p3 = put_figure(&mut *out, p2, numbers[from + 2] as u32, b' ', pairs);
-    put_figure(&mut *out, p3, numbers[from + 3] as u32, b'\n', pairs)
+    let p1 = put_figure(&mut *out, at, numbers[from] as u32, b' ', fours);
+    let p2 = put_figure(&mut *out, p1, numbers[from + 1] as u32, b' ', fours);
+    let p3 = put_figure(&mut *out, p2, numbers[from + 2] as u32, b' ', fours);
+    put_figure(&mut *out, p3, numbers[from + 3] as u32, b'\n', fours)
 }
 
 // The line at a lead, with the four figures from a place on, put at a place; the place after it.
@@ -58,14 +57,14 @@ fn put_line(
     lead: usize,
     numbers: &[u64],
     from: usize,
-    pairs: &[u16],
+    fours: &[u32],
 ) -> usize
-    requires { ⌜ LineReady (now out) at (now start) size lead (now numbers) from (now pairs) ⌝ }
+    requires { ⌜ LineReady (now out) at (now start) size lead (now numbers) from (now fours) ⌝ }
     ensures { λ r. ⌜ Put (now (out .entry)) at (lineAfter (take size (now (start .entry))) lead (now (numbers .entry)) from) (now (out .exit)) r × (r ≤ at + 147) ⌝ }
 {
     let p1 = put_start(&mut *out, at, start, size);
-    let p2 = put_small(&mut *out, p1, lead as u32, b' ', pairs);
-    put_figures(&mut *out, p2, numbers, from, pairs)
+    let p2 = put_small(&mut *out, p1, lead as u32, b' ', fours);
+    put_figures(&mut *out, p2, numbers, from, fours)
 }
 
 // The lines of element i, counted from 0, of a forecast's numbers, put at a place; the place after them. The start of a line says the
@@ -78,12 +77,12 @@ fn put_element(
     size: usize,
     i: usize,
     leads: usize,
-    pairs: &[u16],
+    fours: &[u32],
 ) -> usize
-    requires { ⌜ ElementReady (now out) at (now numbers) (now start) size i leads (now pairs) ⌝ }
+    requires { ⌜ ElementReady (now out) at (now numbers) (now start) size i leads (now fours) ⌝ }
     ensures { λ r. ⌜ ElementPut (now (out .entry)) at (linesAfter (take size (now (start .entry)) ++ (decimal (i + 1) ++ 32 ∷ [])) leads (now (numbers .entry)) i) (now (out .exit)) r leads size (now (start .entry)) (now (start .exit)) ⌝ }
 {
-    let whole = put_small(&mut *start, size, i as u32 + 1, b' ', pairs);
+    let whole = put_small(&mut *start, size, i as u32 + 1, b' ', fours);
     let mut next = at;
     for lead in 0..leads {
         next = put_line(
@@ -94,7 +93,7 @@ fn put_element(
             lead,
             numbers,
             4 * (i * leads + lead),
-            pairs,
+            fours,
         );
     }
     next
@@ -108,16 +107,16 @@ pub fn put_lines(
     steps: u64,
     elements: usize,
     leads: usize,
+    fours: &[u32],
 ) -> usize
-    requires { ⌜ LinesReady (now out) at (now numbers) elements leads ⌝ }
+    requires { ⌜ LinesReady (now out) at (now numbers) elements leads (now fours) ⌝ }
     ensures { λ r. ⌜ Put (now (out .entry)) at (answerLines steps leads (now (numbers .entry)) elements) (now (out .exit)) r × (r ≤ at + 147 * (elements * leads)) ⌝ }
 {
-    let pairs = digit_pairs();
     let mut start = [0u8; 32];
     let size = put_number(&mut start, 0, steps, b' ');
     let mut next = at;
     for i in 0..elements {
-        next = put_element(&mut *out, next, numbers, &mut start, size, i, leads, &pairs);
+        next = put_element(&mut *out, next, numbers, &mut start, size, i, leads, fours);
     }
     next
 }

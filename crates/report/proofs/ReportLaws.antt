@@ -229,17 +229,18 @@ module _ (t : TableValues) (bytes : List ℕ) (s : State) (bounds : TableBounds 
 
 -- and all that the next record relies on is there again, before it has a place for its text
 pub record-ready :
-    (table bytes : List ℕ) (plan : Plan) (weights : List ℕ) (s : State) (space out : List ℕ) {after : State} {space′ out′ : List ℕ}
-    → RecordReady table plan weights s space out 0
+    (table bytes : List ℕ) (plan : Plan) (weights : List ℕ) (s : State) (space fours out : List ℕ) {after : State} {space′ out′ : List ℕ}
+    → RecordReady table plan weights s space fours out 0
     → after ≡ recordOnPrinted (tableIn table) bytes s .state
     → length space′ ≡ length space
     → length out′ ≡ length out
-    → RecordReady table plan weights after space′ out′ 0
-record-ready table bytes plan weights s space out h e m n =
+    → RecordReady table plan weights after space′ fours out′ 0
+record-ready table bytes plan weights s space fours out h e m n =
     record {
       planned = h .planned;
       stateWhole = rw e (record-length (tableIn table) bytes s (h .planned .table .bounds) (h .stateWhole));
       stateKept = rw e (record-fits (tableIn table) bytes s (h .planned .table .bounds) (h .stateWhole) (h .stateKept));
       spaceFull = m ∙ h .spaceFull;
+      digits = h .digits;
       room = omega (arith, h .room, n);
     }

@@ -10,19 +10,22 @@ use Rattle.state.specs.States.{State}
 use Rattle.state.specs.Rules.{stateFits}
 use Rattle.plan.specs.declared.Plan.{Plan}
 use Rattle.plan.specs.Plans.{PlanFits}
+use Rattle.text.specs.Fours.{foursBelow}
 use Rattle.text.specs.Places.{Put}
 use Rattle.report.specs.declared.TextAnswer.{TextAnswer}
 use Rattle.report.specs.Records.{Printed}
 use Rattle.report.specs.Program.{recordBytes, restAfter}
 
--- an accepted table with its plan and weights, a state that rule 8 accepts, working space for a forecast, and room for a record's text
+-- an accepted table with its plan and weights, a state that rule 8 accepts, working space for a forecast, the digits of
+-- 0 to 9,999, and room for a record's text
 pub record RecordReady
-    (table : List ℕ) (plan : Plan) (weights : List ℕ) (state : State) (space out : List ℕ) (at : ℕ)
+    (table : List ℕ) (plan : Plan) (weights : List ℕ) (state : State) (space fours out : List ℕ) (at : ℕ)
     : Type 0 where
   pub planned : PlanFits table plan weights
   pub stateWhole : length state ≡ stateNumbers
   pub stateKept : stateFits (tableIn table) state ≡ true
   pub spaceFull : length space ≡ forecastSpace
+  pub digits : fours ≡ foursBelow 10000
   pub room : at + textBytes ≤ length out
 
 -- a text is put at a place

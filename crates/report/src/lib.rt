@@ -47,10 +47,11 @@ fn answer_forecast(
     weights: &[u64],
     state: &[u64; STATE_NUMBERS],
     space: &mut [u64],
+    fours: &[u32],
     out: &mut [u8],
     at: usize,
 ) -> TextAnswer
-    requires { ⌜ RecordReady (now table) plan (now weights) (now state) (now space) (now out) at ⌝ }
+    requires { ⌜ RecordReady (now table) plan (now weights) (now state) (now space) (now fours) (now out) at ⌝ }
     ensures { λ r. ⌜ TextAnsweredOf r (now (out .entry)) at (now (out .exit)) (forecastPrinted (tableIn (now (table .entry))) (now (state .entry)) (forecastOnAnswer (tableIn (now (table .entry))) (now (state .entry)) answerNumbers)) ⌝ }
 {
     let answer = leads::forecast_in(table, plan, weights, state, &mut *space);
@@ -60,7 +61,15 @@ fn answer_forecast(
     let first = 4 * leads;
     match answer {
         ForecastAnswer::Accepted(_) => {
-            let end = put_lines(&mut *out, at, &space[first..], steps, elements, leads);
+            let end = put_lines(
+                &mut *out,
+                at,
+                &space[first..],
+                steps,
+                elements,
+                leads,
+                fours,
+            );
             TextAnswer { end, ended: false }
         }
         ForecastAnswer::Refused(refusal) => answer_refusal(refusal, steps, &mut *out, at),
@@ -68,7 +77,7 @@ fn answer_forecast(
 }
 
 // A record on an accepted table, its plan and weights, and a state that rule 8 accepts: what it prints is put at a place of lent space;
-// the other space is lent for its forecast.
+// the other space is lent for its forecast, the digits of all groups of four for its lines.
 fn answer_record(
     table: &[u8],
     plan: Plan,
@@ -76,10 +85,11 @@ fn answer_record(
     bytes: &[u8],
     state: &mut [u64; STATE_NUMBERS],
     space: &mut [u64],
+    fours: &[u32],
     out: &mut [u8],
     at: usize,
 ) -> TextAnswer
-    requires { ⌜ RecordReady (now table) plan (now weights) (now state) (now space) (now out) at ⌝ }
+    requires { ⌜ RecordReady (now table) plan (now weights) (now state) (now space) (now fours) (now out) at ⌝ }
     ensures { λ r. ⌜ Reported r (now (out .entry)) at (now (out .exit)) (now (state .exit)) (recordOnPrinted (tableIn (now (table .entry))) (now (bytes .entry)) (now (state .entry))) ⌝ }
 {
     let verdict = engine::step_from(table, plan, weights, bytes, &mut *state);
@@ -90,6 +100,7 @@ fn answer_record(
             weights,
             &*state,
             &mut *space,
+            fours,
             &mut *out,
             at,
         ),
@@ -118,10 +129,11 @@ pub fn answer_next(
     rest: &[u8],
     state: &mut [u64; STATE_NUMBERS],
     space: &mut [u64],
+    fours: &[u32],
     out: &mut [u8],
     at: usize,
 ) -> TextAnswer
-    requires { ⌜ RecordReady (now table) plan (now weights) (now state) (now space) (now out) at ⌝ }
+    requires { ⌜ RecordReady (now table) plan (now weights) (now state) (now space) (now fours) (now out) at ⌝ }
     ensures { λ r. ⌜ Reported r (now (out .entry)) at (now (out .exit)) (now (state .exit)) (recordOnPrinted (tableIn (now (table .entry))) (recordBytes (now (rest .entry))) (now (state .entry))) ⌝ }
 {
     let size = record_length(rest);
@@ -132,6 +144,7 @@ pub fn answer_next(
         &rest[..size],
         &mut *state,
         &mut *space,
+        fours,
         &mut *out,
         at,
     )

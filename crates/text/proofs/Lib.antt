@@ -1,4 +1,4 @@
 pub mod PlacesLaws
 pub mod DecimalLaws
-pub mod PairsLaws
+pub mod FoursLaws
 pub mod LineLaws

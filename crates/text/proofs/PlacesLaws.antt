@@ -5,7 +5,7 @@ use mathlib.Core.Path.{_≡_, refl, sym, ap, subst, _∙_}
 use native.Mathlib.Nat.{add-assoc}
 use native.Mathlib.Numerals.{add-one}
 use native.Mathlib.Omega.{arith}
-use lib.ListN.{length, take, set, getD, length-append}
+use lib.ListN.{length, take, set, getD, length-append, length-set}
 use lib.Seq.{take-suc, take-length, take-suc-set, take-take, take-append-add, take-at, length-take-le}
 use Rattle.text.specs.Places.{Put}
 
@@ -67,3 +67,13 @@ put-all bytes i p e = put-same (ap (λ k. take k bytes) e ∙ take-length bytes)
 pub put-before : {l : List ℕ} {at : ℕ} {a m : List ℕ} {i : ℕ} → Put l at a m i → at ≤ length l → take at m ≡ take at l
 put-before {l} {at} {a} {m} {i} p h =
     sym (take-take at i m (omega (arith, p .ends))) ∙ ap (take at) (p .holds) ∙ take-at (take at l) a at (length-take-le at l h)
+
+-- four bytes stored
+pub put-four-bytes :
+    (l : List ℕ) (at a b c d : ℕ)
+    → at + 4 ≤ length l
+    → Put l at (a ∷ b ∷ c ∷ d ∷ []) (set (set (set (set l at a) (at + 1) b) (at + 2) c) (at + 3) d) (at + 4)
+put-four-bytes l at a b c d h =
+    let two = put-two l at a b (simp length-set (omega arith)) (omega arith) in
+    let three = put-ends {j = at + 3} (put-byte c two (simp length-set (omega arith))) (omega arith) in
+    put-ends (put-byte d three (simp length-set (omega arith))) (omega arith)

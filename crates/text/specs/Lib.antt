@@ -1,4 +1,4 @@
 pub mod Decimal
 pub mod Lines
 pub mod Places
-pub mod Pairs
+pub mod Fours

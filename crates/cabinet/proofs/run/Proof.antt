@@ -19,24 +19,33 @@ started-on-input-requires c κs = search needs
 enum-told : tie.Need-enum-told
 enum-told c = search needs
 
+digit-fours-requires : tie.Need-digit-fours-requires
+digit-fours-requires c κs = search needs
+
 slice-aggregate-serve : tie.Need-slice-aggregate-serve
-slice-aggregate-serve c = sym (length-take-le _ _ (c .before .before .before .before .before .started-on-input .ensures .within))
+slice-aggregate-serve c = sym (length-take-le _ _ (c .before .before .before .before .before .before .started-on-input .ensures .within))
 
 slice-aggregate-serve-2 : tie.Need-slice-aggregate-serve-2
 slice-aggregate-serve-2 c = search needs
 
+slice-aggregate-serve-3 : tie.Need-slice-aggregate-serve-3
+slice-aggregate-serve-3 c = search needs
+
 serve-requires : tie.Need-serve-requires
 serve-requires c κs =
-    let e = c .before .before .before .before .before .before in
+    let d = c .before .before .before .before .before .before .before in
+    let e = d .before in
     let o = e .before .before .before .before in
     let s = o .before .before .before .before .before .before .before in
     let accepted = e .enum-told .given .1 in
-    let started = o .started-on-input .ensures in (
+    let started = o .started-on-input .ensures in
+    let full = length-replicate {A = ℕ} stateNumbers 0 in (
       record {
         planned = started .fits accepted;
-        stateWhole = started-input-length _ _ _ _ _ (length-replicate {A = ℕ} stateNumbers 0) started accepted;
-        stateKept = started-input-fits _ _ _ _ _ (length-replicate {A = ℕ} stateNumbers 0) started accepted;
+        stateWhole = started-input-length _ _ _ _ _ full started accepted;
+        stateKept = started-input-fits _ _ _ _ _ full started accepted;
         spaceFull = s .pre .0;
+        digits = d .digit-fours .ensures;
         room = omega (arith, s .pre .1);
       },
       s .pre .1,
@@ -70,8 +79,10 @@ run-spec =
     slice-aggregate-started-on-input
     started-on-input-requires
     enum-told
+    digit-fours-requires
     slice-aggregate-serve
     slice-aggregate-serve-2
+    slice-aggregate-serve-3
     serve-requires
     enum-known-verdict
     refuse-requires

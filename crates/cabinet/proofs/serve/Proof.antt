@@ -15,17 +15,17 @@ use Rattle.cabinet.proofs.serve.Statement.{statement}
 use Rattle.cabinet.proofs.serve.Tie as tie
 
 abbrev Inv-loop : tie.InvT-loop
-Inv-loop table plan weights state₀ input₀ space₀ out₀ held₀ count₀ state input space out held count =
+Inv-loop table plan weights state₀ input₀ space₀ fours out₀ held₀ count₀ state input space out held count =
     (count ≤ 100000)
     × (BuffersFit held (length input)
     × ((length input ≡ length input₀)
-    × ((length space ≡ length space₀) × ((length out ≡ length out₀) × RecordReady table plan weights state space out 0))))
+    × ((length space ≡ length space₀) × ((length out ≡ length out₀) × RecordReady table plan weights state space fours out 0))))
 
 abbrev μ-loop : tie.MeasureT-loop
-μ-loop table plan weights state₀ input₀ space₀ out₀ held₀ count₀ state input space out held count = 100000 - count
+μ-loop table plan weights state₀ input₀ space₀ fours out₀ held₀ count₀ state input space out held count = 100000 - count
 
 abbrev start : tie.At-loop Inv-loop μ-loop → tie.Start Inv-loop μ-loop
-start c = c .before .before .before .before .before .before .before
+start c = c .before .before .before .before .before .before .before .before
 
 -- the input that is ready lies within the buffer
 window-kept :
@@ -55,7 +55,7 @@ loop-holds c =
           window = record { order = first .window .order; inside = omega (arith, first .window .inside) };
           text = first .text;
         },
-        (refl, (refl, (refl, c .before .before .before .before .before .before .pre .0))),
+        (refl, (refl, (refl, c .before .before .before .before .before .before .before .pre .0))),
       ),
     )
 
@@ -98,6 +98,7 @@ answer-next-requires c κs =
       stateWhole = k .stateWhole;
       stateKept = k .stateKept;
       spaceFull = k .spaceFull;
+      digits = k .digits;
       room = omega (arith, at, inv .1 .0, start l .pre .1);
     }
 
@@ -135,8 +136,8 @@ loop-again c =
           (
             k .1 .1 .1 .1 .1 .0 ∙ inv .1 .0,
             (
-              k .1 .1 .1 .1 .1 .1 .0 ∙ inv .1 .1 .0,
-              record-ready _ _ _ _ _ _ _ (inv .1 .1 .1) (a .answer-next .ensures .left) (k .1 .1 .1 .1 .1 .0) (k .1 .1 .1 .1 .1 .1 .0),
+              k .1 .1 .1 .1 .1 .1 .1 .0 ∙ inv .1 .1 .0,
+              record-ready _ _ _ _ _ _ _ _ (inv .1 .1 .1) (a .answer-next .ensures .left) (k .1 .1 .1 .1 .1 .0) (k .1 .1 .1 .1 .1 .1 .1 .0),
             ),
           ),
         ),

@@ -16,11 +16,11 @@ abbrev lineOf : List ℕ → ℕ → ℕ → List ℕ → ℕ → List ℕ
 lineOf start i leads numbers lead = lineAfter start lead numbers (4 * (i * leads + lead))
 
 abbrev Inv-loop : tie.InvT-loop
-Inv-loop out₀ at numbers start size i leads pairs whole next₀ lead₀ out next lead =
+Inv-loop out₀ at numbers start size i leads fours whole next₀ lead₀ out next lead =
     (lead ≤ leads) × ((next ≤ at + 147 * lead) × ((length out ≡ length out₀) × Put out₀ at (joined (lineOf (take whole start) i leads numbers) lead) out next))
 
 abbrev μ-loop : tie.MeasureT-loop
-μ-loop out₀ at numbers start size i leads pairs whole next₀ lead₀ out next lead = leads - lead
+μ-loop out₀ at numbers start size i leads fours whole next₀ lead₀ out next lead = leads - lead
 
 cast-put-small : tie.Need-cast-put-small Inv-loop μ-loop
 cast-put-small c = omega arith

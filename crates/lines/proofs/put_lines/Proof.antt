@@ -3,7 +3,6 @@ use Prim.Native.Nat.{_+_, _*_, _-_, _≤_}
 use mathlib.Core.List.{[], _∷_, _++_}
 use mathlib.Core.Path.{_≡_, refl, _∙_, sym}
 use native.Mathlib.Omega.{arith}
-use borrow.Author.Needs.{needs}
 use lib.ListN.{length, take}
 use Rattle.text.specs.Decimal.{decimal}
 use Rattle.text.specs.Places.{Put}
@@ -14,7 +13,7 @@ use Rattle.lines.proofs.put_lines.Statement.{statement}
 use Rattle.lines.proofs.put_lines.Tie as tie
 
 abbrev Inv-loop : tie.InvT-loop
-Inv-loop out₀ at numbers steps elements leads pairs start₀ size next₀ i₀ out start next i =
+Inv-loop out₀ at numbers steps elements leads fours start₀ size next₀ i₀ out start next i =
     (i ≤ elements)
     × ((next ≤ at + 147 * (i * leads))
     × ((length out ≡ length out₀)
@@ -22,10 +21,7 @@ Inv-loop out₀ at numbers steps elements leads pairs start₀ size next₀ i₀
     × ((length start ≡ 32) × (take size start ≡ decimal steps ++ 32 ∷ [])))))
 
 abbrev μ-loop : tie.MeasureT-loop
-μ-loop out₀ at numbers steps elements leads pairs start₀ size next₀ i₀ out start next i = elements - i
-
-digit-pairs-requires : tie.Need-digit-pairs-requires Inv-loop μ-loop
-digit-pairs-requires c κs = tt
+μ-loop out₀ at numbers steps elements leads fours start₀ size next₀ i₀ out start next i = elements - i
 
 slice-aggregate-put-number : tie.Need-slice-aggregate-put-number Inv-loop μ-loop
 slice-aggregate-put-number c = refl
@@ -41,16 +37,12 @@ loop-holds c =
 slice-aggregate-put-element : tie.Need-slice-aggregate-put-element Inv-loop μ-loop
 slice-aggregate-put-element c = sym (c .before .before .before .loop .inv .1 .1 .1 .1 .0)
 
-slice-aggregate-put-element-2 : tie.Need-slice-aggregate-put-element-2 Inv-loop μ-loop
-slice-aggregate-put-element-2 c = search needs
-
 put-element-requires : tie.Need-put-element-requires Inv-loop μ-loop
 put-element-requires c κs =
-    let t = c .before .before .before in
+    let t = c .before .before in
     let l = t .before .loop in
     let p = t .before .before .before in
-    let d = p .before .before in
-    let s = d .before .before .before in
+    let s = p .before .before .before .before .before in
     let rows = rows-within _ _ (s .args .leads) (t .loop-test .taken) in record {
       room = omega (arith, rows);
       there = omega (arith, rows);
@@ -59,7 +51,7 @@ put-element-requires c κs =
       whole = l .inv .1 .1 .1 .1 .0;
       few = p .put-number .ensures .1;
       under = fewer-under _ _ _ (omega (arith, rows)) (s .pre .under);
-      digits = d .digit-pairs .ensures;
+      digits = s .pre .digits;
     }
 
 add-i : tie.Need-add-i Inv-loop μ-loop
@@ -71,7 +63,7 @@ loop-less c = omega arith
 loop-again : tie.Need-loop-again Inv-loop μ-loop
 loop-again c =
     let d = c .before .before .before in
-    let t = d .before .before .before .before in
+    let t = d .before .before .before in
     let l = t .before .loop in
     let s = t .before .before .before .before .before .before .before .before in
     let text = l .inv .1 .1 .1 .1 .1 in
@@ -107,12 +99,10 @@ put-lines-spec =
     (tie.spec
     Inv-loop
     μ-loop
-    digit-pairs-requires
     slice-aggregate-put-number
     put-number-requires
     loop-holds
     slice-aggregate-put-element
-    slice-aggregate-put-element-2
     put-element-requires
     add-i
     loop-less

@@ -45,7 +45,7 @@ put-lines-requires : tie.Need-put-lines-requires
 put-lines-requires c κs =
     let m = c .before .before .before in
     let f = m .before .before .before .before .before .before in
-    let s = f .before .before .before .before .before .before in
+    let s = f .before .before .before .before .before .before .before in
     let p = s .pre in
     let few = lines-few _ _ _ (p .planned) in
     let leads = few-leads _ _ _ (p .planned) in
@@ -55,6 +55,7 @@ put-lines-requires c κs =
       there = part-room (f .forecast-in .last .1 .1 .1 .1 .0) _ _ leads few (f .forecast-in .kept .1 .1 .1 .1 .0 ∙ p .spaceFull);
       elementsFew = few-elements _ _ _ (p .planned);
       leadsFew = omega (arith, leads);
+      digits = p .digits;
       under = plan-under _ _ _ (p .planned) _ (shown-under _ _ _ shown);
     }
 
@@ -75,7 +76,7 @@ returns c =
     let l = c .before .before in
     let m = l .before .before .before .before in
     let f = m .before .before .before .before .before .before in
-    let s = f .before .before .before .before .before .before in
+    let s = f .before .before .before .before .before .before .before in
     let p = s .pre in
     let few = lines-few _ _ _ (p .planned) in
     let shown = forecast-shown _ _ (p .stateKept) _ _ (f .forecast-in .ensures) _ (m .enum-told .given .1) (rest-of _ _ _ (ap (λ k. 4 * (k + 1)) (p .planned .leads))) in
@@ -92,7 +93,7 @@ returns-2 c =
     let r = c .before .before in
     let k = r .before .before .before in
     let f = k .before .before .before .before .before .before in
-    let s = f .before .before .before .before .before .before in
+    let s = f .before .before .before .before .before .before .before in
     let gone = forecast-not-shown _ _ (s .pre .stateKept) _ _ (f .forecast-in .ensures) (k .answer .given .1) in
     text-as (forecast-refused _ _ _ gone) (refusal-printed _ _ (r .answer-refusal .ensures))
 

@@ -15,7 +15,7 @@ answer-forecast-requires : tie.Need-answer-forecast-requires
 answer-forecast-requires c κs =
     let m = c .before .before .before in
     let w = m .before .before in
-    let s = w .before .before .before .before .before .before .before in
+    let s = w .before .before .before .before .before .before .before .before in
     let p = s .pre in
     let v = w .step-from .ensures in
     record {
@@ -23,6 +23,7 @@ answer-forecast-requires c κs =
       stateWhole = step-length _ _ _ _ _ v (p .planned .table .bounds) (p .stateWhole);
       stateKept = answered-fits _ _ _ _ (p .planned .table .bounds) (p .stateWhole) _ v (m .enum-told .given .1);
       spaceFull = p .spaceFull;
+      digits = p .digits;
       room = p .room;
     }
 
