@@ -9,7 +9,9 @@ use native.Mathlib.Omega.{arith}
 use lib.ListN.{length, getD, set, length-set}
 use lib.Seq.{getD-set-same, getD-set-other}
 use Rattle.method.specs.declared.Figures.{Figures}
-use Rattle.answer_space.specs.Places.{figuresAt, put}
+use Rattle.method.specs.Figures.{FiguresFit}
+use Rattle.method.specs.Inflow.{joinedInflow}
+use Rattle.answer_space.specs.Places.{figuresAt, put, putAndAdded, mostSum, FiguresBelow, PlacesReady}
 
 -- four numbers put at place p
 module _ (answer : List ℕ) (p : ℕ) (f : Figures) where
@@ -82,6 +84,17 @@ module _ (answer : List ℕ) (p : ℕ) (f : Figures) where
     pub put-here : figuresAt (put answer p f) p ≡ f
     unfolding figuresAt
     put-here = rw (first, second, third, fourth)
+
+-- figures put at p, and then added to the sums at another place
+module _ (answer middle : List ℕ) (p q : ℕ) (f : Figures) (ready : PlacesReady answer p q f) (is : middle ≡ put answer p f) where
+  sums-stay : figuresAt middle q ≡ figuresAt answer q
+  sums-stay = rw is (put-other answer p f q (ready .apart))
+
+  pub add-ready : (4 * q + 3 < length middle) × (FiguresBelow (figuresAt middle q) mostSum × FiguresFit f)
+  add-ready = (rw (is, put-length answer p f) (ready .belowRoom), (rw sums-stay (ready .small), ready .fits))
+
+  pub put-then-added : {after : List ℕ} → after ≡ put middle q (joinedInflow (figuresAt middle q) f) → after ≡ putAndAdded answer p q f
+  put-then-added e = rw (sums-stay, is) at e
 
 -- places of two elements and leads, at w leads an element, are apart
 earlier : (w i k : ℕ) → i < k → i * w + w ≤ k * w

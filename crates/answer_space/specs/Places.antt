@@ -1,11 +1,13 @@
 -- Serves the code: the places of its working space, four numbers each.
 use Prim.Native.Nat.{ℕ, _+_, _*_, _≤_, _<_}
 use mathlib.Core.List.{List}
-use mathlib.Core.Path.{_≡_}
-use lib.ListN.{getD, set}
+use mathlib.Core.Logic.{_≢_}
+use lib.ListN.{length, getD, set}
 use Rattle.sizes.specs.Sizes.{mostElements}
 use Rattle.units.specs.Units.{C, grains, thousandths}
 use Rattle.method.specs.declared.Figures.{Figures}
+use Rattle.method.specs.Figures.{FiguresFit}
+use Rattle.method.specs.Inflow.{joinedInflow}
 
 -- four numbers at place p of an answer, and those of an element put there
 unfoldable pub figuresAt : List ℕ → ℕ → Figures
@@ -22,6 +24,10 @@ put answer p f =
     set (set (set (set answer (4 * p) (f .discharge .0)) (4 * p + 1) (f .«discharge_margin» .0)) (4 * p + 2) (f .variance .0))
     (4 * p + 3) (f .«variance_margin» .0)
 
+-- the figures of an element put at one place, and added to the sums at another
+abbrev pub putAndAdded : List ℕ → ℕ → ℕ → Figures → List ℕ
+putAndAdded answer here below f = put (put answer here f) below (joinedInflow (figuresAt answer below) f)
+
 -- what all elements together can let out
 abbrev pub mostSum : ℕ
 mostSum = mostElements * C
@@ -32,3 +38,11 @@ pub record FiguresBelow (f : Figures) (b : ℕ) : Type 0 where
   pub dischargeMargin : f .«discharge_margin» .0 ≤ b
   pub variance : f .variance .0 ≤ b
   pub varianceMargin : f .«variance_margin» .0 ≤ b
+
+-- what putting and adding figures relies on
+pub record PlacesReady (answer : List ℕ) (here below : ℕ) (f : Figures) : Type 0 where
+  pub hereRoom : 4 * here + 3 < length answer
+  pub belowRoom : 4 * below + 3 < length answer
+  pub apart : below ≢ here
+  pub small : FiguresBelow (figuresAt answer below) mostSum
+  pub fits : FiguresFit f

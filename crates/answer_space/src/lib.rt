@@ -5,7 +5,7 @@ ghost use lib.ListN.{length};
 ghost use lib.Seq.{paste};
 ghost use Rattle.method.specs.Figures.{FiguresFit};
 ghost use Rattle.method.specs.Inflow.{joinedInflow};
-ghost use Rattle.answer_space.specs.Places.{figuresAt, put, mostSum, FiguresBelow};
+ghost use Rattle.answer_space.specs.Places.{figuresAt, put, putAndAdded, mostSum, FiguresBelow, PlacesReady};
 use method::Figures;
 use units::Discharge;
 use units::Variance;
@@ -60,12 +60,21 @@ fn joined(x: Figures, y: Figures) -> Figures
 }
 
 // The figures of one element added to the sums at a place.
-pub fn add_figures(numbers: &mut [u64], place: usize, f: Figures)
+fn add_figures(numbers: &mut [u64], place: usize, f: Figures)
     requires { ⌜ (4 * place + 3 < length (now numbers)) × (FiguresBelow (figuresAt (now numbers) place) mostSum × FiguresFit f) ⌝ }
     ensures { λ _. ⌜ now (numbers .exit) ≡ put (now (numbers .entry)) place (joinedInflow (figuresAt (now (numbers .entry)) place) f) ⌝ }
 {
     let sums = figures_at(&*numbers, place);
     put_figures(numbers, place, joined(sums, f));
+}
+
+// The figures of one element put at a place, and added to the sums at another.
+pub fn put_and_add(numbers: &mut [u64], here: usize, below: usize, f: Figures)
+    requires { ⌜ PlacesReady (now numbers) here below f ⌝ }
+    ensures { λ _. ⌜ now (numbers .exit) ≡ putAndAdded (now (numbers .entry)) here below f ⌝ }
+{
+    put_figures(&mut *numbers, here, f);
+    add_figures(numbers, below, f);
 }
 
 // The answer's numbers, copied into the lent space.

@@ -14,7 +14,6 @@ use buffers::ready;
 use buffers::write_out;
 use fields::bytes::read32;
 use lines::put_refusal;
-use plan::Plan;
 use refusal::Refusal;
 use refusal::Verdict;
 use report::answer_next;
@@ -23,6 +22,7 @@ use sizes::FORECAST_SPACE;
 use sizes::MOST_ELEMENTS;
 use sizes::STATE_NUMBERS;
 use sizes::TABLE_BYTES;
+use table::Counts;
 use table_input::started_on_input;
 use text::digit_fours;
 
@@ -44,7 +44,7 @@ fn first_buffers() -> Buffers
 // Answers the records, one after the other, up to a hundred thousand, from a state that rule 8 accepts: every record leaves one.
 fn serve(
     table: &[u8],
-    plan: Plan,
+    counts: Counts,
     weights: &[u64],
     state: &mut [u64; STATE_NUMBERS],
     input: &mut [u8],
@@ -52,7 +52,7 @@ fn serve(
     fours: &[u32],
     out: &mut [u8],
 )
-    requires { ⌜ RecordReady (now table) plan (now weights) (now state) (now space) (now fours) (now out) 0 × (length (now out) ≡ textBuffer) ⌝ }
+    requires { ⌜ RecordReady (now table) counts (now weights) (now state) (now space) (now fours) (now out) 0 × (length (now out) ≡ textBuffer) ⌝ }
 {
     let mut held = first_buffers();
     let mut count: u64 = 0;
@@ -67,7 +67,7 @@ fn serve(
         let length = record_length(&input[from..have]);
         let answer = answer_next(
             table,
-            plan,
+            counts,
             weights,
             &input[from..have],
             &mut *state,
@@ -142,14 +142,14 @@ fn run(table: &[u8], input: &mut [u8], space: &mut [u64], out: &mut [u8])
     let mut state = [0u64; STATE_NUMBERS];
     let started = started_on_input(table, &mut weights, &mut state);
     let verdict = started.verdict;
-    let plan = started.plan;
+    let counts = started.counts;
     let length = started.length;
     match verdict {
         Verdict::Accepted => {
             let fours = digit_fours();
             serve(
                 &table[..length],
-                plan,
+                counts,
                 &weights,
                 &mut state,
                 &mut *input,

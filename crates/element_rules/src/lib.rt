@@ -10,7 +10,13 @@ fn basin_fits(e: Element) -> bool
     ensures { λ r. ⌜ r ≡ basinFits e ⌝ }
 {
     let noise = e.rain_noise;
-    in_range(e.area, 1, 400_000) & in_range(e.runoff, 0, 1_000) & in_range(noise.0, 0, 100_000_000)
+    if !in_range(e.area, 1, 400_000) {
+        return false;
+    }
+    if 1_000 < e.runoff {
+        return false;
+    }
+    noise.0 <= 100_000_000
 }
 
 fn reach_fits(e: Element) -> bool
@@ -39,9 +45,20 @@ pub fn element_fits(step: u64, e: Element) -> bool
     let q = e.first_discharge;
     let v = e.first_variance;
     let w = e.system_noise;
+    if e.lag < step {
+        return false;
+    }
+    if 60_000 < e.lag {
+        return false;
+    }
+    if Discharge::CEILING < q.0 {
+        return false;
+    }
+    if Variance::CEILING < v.0 {
+        return false;
+    }
+    if 100_000_000 < w.0 {
+        return false;
+    }
     kind_fits(e)
-        & in_range(e.lag, step, 60_000)
-        & in_range(q.0, 0, Discharge::CEILING)
-        & in_range(v.0, 0, Variance::CEILING)
-        & in_range(w.0, 0, 100_000_000)
 }

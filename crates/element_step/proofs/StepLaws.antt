@@ -1,84 +1,86 @@
 -- Laws of the step of one element: rule 16 on its inflow, its move and its correction, one after the other.
 use Prim.Native.Nat.{ℕ}
+use mathlib.Core.List.{append-assoc, append-nil}
 use mathlib.Core.Logic.{⊎-elim}
-use mathlib.Core.Path.{_≡_, sym, ap, _∙_}
+use mathlib.Core.Path.{_≡_, refl, sym, ap, _∙_}
 use Rattle.refusal.specs.Answers.{Answer, refused}
 use Rattle.refusal.specs.declared.Refusal.{Refusal}
 use Rattle.units.proofs.CeilingLaws.{same-accepted, refused-append, accepted-append}
+use Rattle.weighting.specs.declared.Estimate.{Estimate}
 use Rattle.method.specs.declared.Figures.{Figures}
 use Rattle.method.specs.declared.FiguresAnswer.{FiguresAnswer}
-use Rattle.method.specs.declared.FiguresAnswer.the-variants as of-figures
-use Rattle.method.specs.Figures.{figuresAnswer}
-use Rattle.method.specs.Inflow.{noInflow, inflowAnswer}
-use Rattle.method.specs.Routing.{routed, routingAnswer}
+use Rattle.method.specs.declared.FiguresAnswer.the-variants.{Accepted, Refused}
+use Rattle.method.specs.Figures.{variance, figuresAnswer}
+use Rattle.method.specs.Inflow.{inflowAnswer}
+use Rattle.method.specs.Routing.{routedDischarge, routingAnswer}
+use Rattle.routing.specs.Parts.{partsAnswer, routedAnswer}
+use Rattle.routing.proofs.RoutingLaws.{move-answered}
+use Rattle.inflow.specs.Basin.{basinInflow}
 use Rattle.elements.specs.declared.Element.{Element}
 use Rattle.elements.specs.Kinds.{IsKind}
-use Rattle.elements.proofs.KindLaws.{by-basin, by-reach}
-use Rattle.record.specs.declared.Observation.{Observation}
+use Rattle.elements.proofs.KindLaws.{kind-both}
+use Rattle.record.specs.declared.Observation.the-variants.{Nothing}
 use Rattle.element_step.specs.declared.Intake.{Intake}
-use Rattle.element_step.specs.ElementStep.{inflowOf, inflowOfAnswer, correctedBy, moved, moveNumbers, elementStep, elementNumbers}
-use Rattle.element_step.specs.Answers.{correctedAnswer, movedAnswer, intakeOwn, elementAnswer}
+use Rattle.element_step.specs.ElementStep.{inflowOf, correctedBy, moved, observationNumbers, moveNumbers, elementStep, elementNumbers}
+use Rattle.element_step.specs.Answers.{correctedAnswer, movedAnswer, movedByKind, intakeOwn, elementAnswer}
 
--- the inflow of a kind that rule 5 accepts
-pub inflow-of-kind :
-    (kind : ℕ) (own above : Figures) → IsKind kind → inflowOfAnswer kind own above ≡ inflowAnswer (inflowOf kind own above)
-unfolding inflowOfAnswer inflowOf
-inflow-of-kind kind own above k =
-    ⊎-elim (λ b. by-basin kind _ _ _ b ∙ ap inflowAnswer (sym (by-basin kind own above noInflow b)))
-    (λ r. by-reach kind _ _ _ r ∙ ap inflowAnswer (sym (by-reach kind own above noInflow r))) k
-
-module _ (H : ℕ) (e : Element) (o : Observation) (inflow old : Figures) where
-  -- the move refuses
-  pub move-passes :
-      {r : FiguresAnswer} {k : Refusal}
-      → r ≡ of-figures.Refused k
-      → figuresAnswer r ≡ routingAnswer H (e .«system_noise» .0) inflow old
-      → movedAnswer H e o inflow old ≡ refused 16
-  unfolding movedAnswer moveNumbers routingAnswer
-  move-passes p q = refused-append _ _ _ _ (sym (ap figuresAnswer p) ∙ q)
-
-  -- it does not: the correction decides
-  pub move-accepted :
-      {r : FiguresAnswer} {x : Figures} (answer : Answer Figures)
-      → r ≡ of-figures.Accepted x
-      → figuresAnswer r ≡ routingAnswer H (e .«system_noise» .0) inflow old
-      → answer ≡ correctedAnswer o x
-      → answer ≡ movedAnswer H e o inflow old
-  unfolding correctedAnswer movedAnswer moveNumbers routingAnswer moved
-  move-accepted answer p q k =
-      let a = sym (ap figuresAnswer p) ∙ q in
-      let s = same-accepted _ (routed H (e .«system_noise» .0) inflow old) _ a in
-      k ∙ sym (rw (s .0) (accepted-append _ _ _ _ a))
-
-module _ (H : ℕ) (e : Element) (intake : Intake) (old : Figures) (known : IsKind (e .kind)) where
-  abbrev taken : Figures
-  taken = inflowOf (e .kind) (intakeOwn e intake) (intake .above)
-
-  judged :
-      {a b : Answer Figures}
-      → b ≡ a
-      → b ≡ inflowOfAnswer (e .kind) (intakeOwn e intake) (intake .above)
-      → a ≡ inflowAnswer taken
-  judged p q = sym p ∙ (q ∙ inflow-of-kind (e .kind) (intakeOwn e intake) (intake .above) known)
-
+-- a move with an inflow that was judged
+module _ (H : ℕ) (e : Element) (inflow old : Figures) {r : FiguresAnswer} (judged : figuresAnswer r ≡ inflowAnswer inflow) where
   -- the inflow refuses
-  pub inflow-passes :
-      {r : FiguresAnswer} {k : Refusal}
-      → r ≡ of-figures.Refused k
-      → figuresAnswer r ≡ inflowOfAnswer (e .kind) (intakeOwn e intake) (intake .above)
-      → elementAnswer H e intake old ≡ refused 16
-  unfolding elementAnswer elementNumbers inflowAnswer
-  inflow-passes p q = refused-append _ _ _ _ (judged (ap figuresAnswer p) q)
+  pub inflow-passes : {k : Refusal} → r ≡ Refused k → refused 16 ≡ movedAnswer H e inflow old
+  unfolding movedAnswer inflowAnswer
+  inflow-passes p = sym (refused-append _ _ _ _ (sym (ap figuresAnswer p) ∙ judged))
 
   -- it does not: the move decides
   pub inflow-accepted :
-      {r : FiguresAnswer} {x : Figures} (answer : Answer Figures)
-      → r ≡ of-figures.Accepted x
-      → figuresAnswer r ≡ inflowOfAnswer (e .kind) (intakeOwn e intake) (intake .above)
-      → answer ≡ movedAnswer H e (intake .observation) x old
-      → answer ≡ elementAnswer H e intake old
-  unfolding elementAnswer movedAnswer elementNumbers elementStep inflowAnswer
-  inflow-accepted answer p q k =
-      let a = judged (ap figuresAnswer p) q in
-      let s = same-accepted _ taken _ a in
-      k ∙ sym (rw (s .0) (accepted-append _ _ _ _ a))
+      {x : Figures} {q : Estimate} {v : Answer Estimate} {answer : Answer Figures}
+      → r ≡ Accepted x
+      → q ≡ routedDischarge H x old
+      → v ≡ partsAnswer H (e .«system_noise» .0) (variance x) (variance old)
+      → answer ≡ routedAnswer q v
+      → answer ≡ movedAnswer H e inflow old
+  unfolding movedAnswer moved inflowAnswer routingAnswer
+  inflow-accepted p d w f =
+      let a = sym (ap figuresAnswer p) ∙ judged in
+      let s = same-accepted _ inflow _ a in
+      move-answered _ _ _ _ d w f ∙ rw (s .0) (sym (accepted-append _ _ _ _ a))
+
+-- an element of a kind that rule 5 accepts
+module _ (H : ℕ) (e : Element) (intake : Intake) (old : Figures) (known : IsKind (e .kind)) where
+  abbrev byKindAt : ℕ → Answer Figures
+  byKindAt lead = movedByKind H e (basinInflow (intake .«rain_inflow») lead (e .«rain_noise» .0)) (intake .above) old
+
+  move-of-kind :
+      byKindAt (intake .lead) ≡ movedAnswer H e (inflowOf (e .kind) (intakeOwn e intake) (intake .above)) old
+  unfolding movedByKind inflowOf
+  move-of-kind =
+      kind-both (λ (a : Answer Figures) (f : Figures). a ≡ movedAnswer H e f old) (e .kind) (λ _. refl) (λ _. refl)
+      (λ b r. absurd (⊎-elim b r known))
+
+  -- at a lead nothing is observed: the move is all
+  pub lead-moved : intake .observation ≡ Nothing → byKindAt (intake .lead) ≡ elementAnswer H e intake old
+  unfolding elementAnswer elementNumbers elementStep moveNumbers movedAnswer correctedBy observationNumbers
+  lead-moved n = move-of-kind ∙ rw (n, append-nil)
+
+  -- a step is lead 0
+  module _ (step : intake .lead ≡ 0) where
+    step-moved : byKindAt 0 ≡ movedAnswer H e (inflowOf (e .kind) (intakeOwn e intake) (intake .above)) old
+    step-moved = ap byKindAt (sym step) ∙ move-of-kind
+
+    module _ {r : FiguresAnswer} (answer : figuresAnswer r ≡ byKindAt 0) where
+      -- the move refuses
+      pub move-passes : {k : Refusal} → r ≡ Refused k → refused 16 ≡ elementAnswer H e intake old
+      unfolding elementAnswer elementNumbers moveNumbers movedAnswer
+      move-passes p = rw (← append-assoc) (sym (refused-append _ _ _ _ (sym (ap figuresAnswer p) ∙ (answer ∙ step-moved))))
+
+      -- it does not: the correction decides
+      pub move-accepted :
+          {x : Figures} {after : Answer Figures}
+          → r ≡ Accepted x
+          → after ≡ correctedAnswer (intake .observation) x
+          → after ≡ elementAnswer H e intake old
+      unfolding elementAnswer elementNumbers elementStep moveNumbers movedAnswer correctedAnswer
+      move-accepted p k =
+          let a = sym (ap figuresAnswer p) ∙ (answer ∙ step-moved) in
+          let s = same-accepted _ old _ a in
+          k ∙ rw (s .0, ← append-assoc) (sym (accepted-append _ _ _ _ a))

@@ -14,10 +14,14 @@ pub record ElementInRange (e : Element) : Type 0 where
   pub systemNoise : e .«system_noise» .0 ≤ C
   pub rainNoise : e .«rain_noise» .0 ≤ 100000000
 
--- and of all that it takes in
-pub record StepInRange (e : Element) (H : ℕ) (intake : Intake) (before : Figures) : Type 0 where
+-- and of its weight and its figures before
+pub record MoveInRange (e : Element) (H : ℕ) (before : Figures) : Type 0 where
   pub element : ElementInRange e
   pub weight : H ≤ S
+  pub old : FiguresFit before
+
+-- and of what it takes in
+pub record StepInRange (e : Element) (H : ℕ) (intake : Intake) (before : Figures) : Type 0 where
+  pub move : MoveInRange e H before
   pub lead : intake .lead ≤ 12
   pub observation : ObservationFits (intake .observation)
-  pub old : FiguresFit before

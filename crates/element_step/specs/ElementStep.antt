@@ -1,9 +1,8 @@
 -- Document 01, One step: what one element takes in, how it moves, how a reading corrects it.
 use Prim.Native.Nat.{ℕ}
 use mathlib.Core.List.{List, [], _++_}
-use Rattle.refusal.specs.Answers.{Answer, refused}
 use Rattle.method.specs.declared.Figures.{Figures}
-use Rattle.method.specs.Inflow.{noInflow, inflowNumbers, inflowAnswer}
+use Rattle.method.specs.Inflow.{noInflow, inflowNumbers}
 use Rattle.method.specs.Routing.{routed, routingNumbers}
 use Rattle.method.specs.Correction.{corrected, correctionNumbers}
 use Rattle.elements.specs.declared.Element.{Element}
@@ -14,10 +13,6 @@ use Rattle.record.specs.declared.Observation.the-variants.{Nothing, Rated}
 -- the inflow: a basin's own, a reach's from above
 unfoldable pub inflowOf : ℕ → Figures → Figures → Figures
 inflowOf kind own above = byKind kind own above noInflow
-
--- the same, judged by 16; "all other bytes refused", by 5: "An element's kind .. is out of range."
-unfoldable pub inflowOfAnswer : ℕ → Figures → Figures → Answer Figures
-inflowOfAnswer kind own above = byKind kind (inflowAnswer own) (inflowAnswer above) (refused 5)
 
 -- "A reading then corrects the element before anything below it is worked out."
 unfoldable pub correctedBy : Observation → Figures → Figures

@@ -1,14 +1,14 @@
-// One element at a step or a lead: its inflow by its kind, its move, its correction by a reading; a basin's rains after a step.
+// One element at a step or a lead: its inflow by its kind, its move, its correction by a reading; a basin's rains after a step. A step and
+// a lead have functions of their own, and each is called once, so that the compiler puts them into their callers.
 ghost use mathlib.Core.Path.{_≡_};
 ghost use Prim.Native.Nat.{_≤_};
-ghost use Rattle.units.specs.Units.{S};
 ghost use Rattle.method.specs.Figures.{figuresAnswer, FiguresFit, AnsweredFiguresFit};
 ghost use Rattle.inflow.specs.Basin.{basinInflow};
+ghost use Rattle.record.specs.declared.Observation.the-variants.{Nothing};
 ghost use Rattle.record.specs.Decoded.{ObservationFits};
-ghost use Rattle.element_step.specs.ElementStep.{inflowOfAnswer};
 ghost use Rattle.element_step.specs.Rains.{shiftedRains};
-ghost use Rattle.element_step.specs.Bounds.{ElementInRange, StepInRange};
-ghost use Rattle.element_step.specs.Answers.{correctedAnswer, movedAnswer, elementAnswer};
+ghost use Rattle.element_step.specs.Bounds.{MoveInRange, StepInRange};
+ghost use Rattle.element_step.specs.Answers.{correctedAnswer, movedAnswer, movedByKind, elementAnswer};
 use correction::correct;
 use elements::Element;
 use inflow::basin_inflow;
@@ -16,20 +16,69 @@ use method::Figures;
 use method::FiguresAnswer;
 use record::Observation;
 use refusal::Refusal;
-use routing::route;
+use routing::route_discharge;
+use routing::route_variance;
+use routing::routed_figures;
 use state::Rains;
 
-// The inflow of an element: the kind byte chooses between what rain brings at a step (lead 0) or a lead, and what drains in; all other
-// bytes are refused.
-fn inflow_of(e: Element, rain_inflow: u64, lead: u64, above: Figures) -> FiguresAnswer
-    requires { ⌜ (lead ≤ 12) × ElementInRange e ⌝ }
-    ensures { λ r. ⌜ (figuresAnswer r ≡ inflowOfAnswer (e .kind) (basinInflow «rain_inflow» lead (e .«rain_noise» .0)) above) × AnsweredFiguresFit r ⌝ }
+// What an element takes in: the inflow that its rain brings, the number of the lead (0 at a step), what drains in, and what its gauge
+// observed.
+pub struct Intake {
+    pub rain_inflow: u64,
+    pub lead: u64,
+    pub above: Figures,
+    pub observation: Observation,
+}
+
+// The move of a basin at a step: what rain brings, judged, and the move with it.
+fn step_basin(e: Element, weight: u64, rain_inflow: u64, old: Figures) -> FiguresAnswer
+    requires { ⌜ MoveInRange e weight old ⌝ }
+    ensures { λ r. ⌜ (figuresAnswer r ≡ movedAnswer weight e (basinInflow «rain_inflow» 0 (e .«rain_noise» .0)) old) × AnsweredFiguresFit r ⌝ }
+{
+    let noise = e.system_noise;
+    let rain_noise = e.rain_noise;
+    let FiguresAnswer::Accepted(inflow) = basin_inflow(rain_inflow, 0, rain_noise.0) else {
+        return FiguresAnswer::Refused(Refusal::AboveCeiling);
+    };
+    routed_figures(
+        route_discharge(weight, inflow, old),
+        route_variance(weight, noise.0, inflow, old),
+    )
+}
+
+// The move of a reach at a step: what drains in, judged, and the move with it.
+fn step_reach(e: Element, weight: u64, above: Figures, old: Figures) -> FiguresAnswer
+    requires { ⌜ MoveInRange e weight old ⌝ }
+    ensures { λ r. ⌜ (figuresAnswer r ≡ movedAnswer weight e above old) × AnsweredFiguresFit r ⌝ }
+{
+    let noise = e.system_noise;
+    let FiguresAnswer::Accepted(inflow) = Figures::new(
+        above.discharge_estimate(),
+        above.variance_estimate(),
+    ) else {
+        return FiguresAnswer::Refused(Refusal::AboveCeiling);
+    };
+    routed_figures(
+        route_discharge(weight, inflow, old),
+        route_variance(weight, noise.0, inflow, old),
+    )
+}
+
+// The move of an element at a step: the kind byte chooses between what rain brings and what drains in; all other bytes are refused.
+fn move_by_kind(
+    e: Element,
+    weight: u64,
+    rain_inflow: u64,
+    above: Figures,
+    old: Figures,
+) -> FiguresAnswer
+    requires { ⌜ MoveInRange e weight old ⌝ }
+    ensures { λ r. ⌜ (figuresAnswer r ≡ movedByKind weight e (basinInflow «rain_inflow» 0 (e .«rain_noise» .0)) above old) × AnsweredFiguresFit r ⌝ }
 {
     let kind = e.kind;
-    let noise = e.rain_noise;
     match kind {
-        elements::BASIN => basin_inflow(rain_inflow, lead, noise.0),
-        elements::REACH => Figures::new(above.discharge_estimate(), above.variance_estimate()),
+        elements::BASIN => step_basin(e, weight, rain_inflow, old),
+        elements::REACH => step_reach(e, weight, above, old),
         _ => FiguresAnswer::Refused(Refusal::ElementField),
     }
 }
@@ -45,48 +94,64 @@ fn correct_by(observation: Observation, x: Figures) -> FiguresAnswer
     }
 }
 
-// The move of an element with its inflow, and its correction.
-fn move_element(
-    e: Element,
-    weight: u64,
-    observation: Observation,
-    inflow: Figures,
-    old: Figures,
-) -> FiguresAnswer
-    requires { ⌜ (weight ≤ S) × (ElementInRange e × (ObservationFits observation × (FiguresFit inflow × FiguresFit old))) ⌝ }
-    ensures { λ r. ⌜ (figuresAnswer r ≡ movedAnswer weight e observation inflow old) × AnsweredFiguresFit r ⌝ }
+// One element at a step: its inflow, its move and its correction.
+pub fn step_element(e: Element, weight: u64, intake: Intake, old: Figures) -> FiguresAnswer
+    requires { ⌜ StepInRange e weight intake old × (intake .lead ≡ 0) ⌝ }
+    ensures { λ r. ⌜ (figuresAnswer r ≡ elementAnswer weight e intake old) × AnsweredFiguresFit r ⌝ }
 {
-    let noise = e.system_noise;
-    let FiguresAnswer::Accepted(x) = route(weight, noise.0, inflow, old) else {
+    let observation = intake.observation;
+    let FiguresAnswer::Accepted(x) = move_by_kind(e, weight, intake.rain_inflow, intake.above, old)
+    else {
         return FiguresAnswer::Refused(Refusal::AboveCeiling);
     };
     correct_by(observation, x)
 }
 
-// What an element takes in: the inflow that its rain brings, the number of the lead (0 at a step), what drains in, and what its gauge
-// observed.
-pub struct Intake {
-    pub rain_inflow: u64,
-    pub lead: u64,
-    pub above: Figures,
-    pub observation: Observation,
+// The move of a basin at a lead.
+fn lead_basin(e: Element, weight: u64, rain_inflow: u64, lead: u64, old: Figures) -> FiguresAnswer
+    requires { ⌜ (lead ≤ 12) × MoveInRange e weight old ⌝ }
+    ensures { λ r. ⌜ (figuresAnswer r ≡ movedAnswer weight e (basinInflow «rain_inflow» lead (e .«rain_noise» .0)) old) × AnsweredFiguresFit r ⌝ }
+{
+    let noise = e.system_noise;
+    let rain_noise = e.rain_noise;
+    let FiguresAnswer::Accepted(inflow) = basin_inflow(rain_inflow, lead, rain_noise.0) else {
+        return FiguresAnswer::Refused(Refusal::AboveCeiling);
+    };
+    routed_figures(
+        route_discharge(weight, inflow, old),
+        route_variance(weight, noise.0, inflow, old),
+    )
 }
 
-// One element at a step or a lead: its inflow, its move and its correction.
-pub fn step_element(e: Element, weight: u64, intake: Intake, old: Figures) -> FiguresAnswer
-    requires { ⌜ StepInRange e weight intake old ⌝ }
-    ensures { λ r. ⌜ (figuresAnswer r ≡ elementAnswer weight e intake old) × AnsweredFiguresFit r ⌝ }
+// The move of a reach at a lead.
+fn lead_reach(e: Element, weight: u64, above: Figures, old: Figures) -> FiguresAnswer
+    requires { ⌜ MoveInRange e weight old ⌝ }
+    ensures { λ r. ⌜ (figuresAnswer r ≡ movedAnswer weight e above old) × AnsweredFiguresFit r ⌝ }
 {
-    let observation = intake.observation;
-    let FiguresAnswer::Accepted(inflow) = inflow_of(
-        e,
-        intake.rain_inflow,
-        intake.lead,
-        intake.above,
+    let noise = e.system_noise;
+    let FiguresAnswer::Accepted(inflow) = Figures::new(
+        above.discharge_estimate(),
+        above.variance_estimate(),
     ) else {
         return FiguresAnswer::Refused(Refusal::AboveCeiling);
     };
-    move_element(e, weight, observation, inflow, old)
+    routed_figures(
+        route_discharge(weight, inflow, old),
+        route_variance(weight, noise.0, inflow, old),
+    )
+}
+
+// One element at a lead, where nothing is observed: its inflow and its move.
+pub fn lead_element(e: Element, weight: u64, intake: Intake, old: Figures) -> FiguresAnswer
+    requires { ⌜ StepInRange e weight intake old × (intake .observation ≡ Nothing) ⌝ }
+    ensures { λ r. ⌜ (figuresAnswer r ≡ elementAnswer weight e intake old) × AnsweredFiguresFit r ⌝ }
+{
+    let kind = e.kind;
+    match kind {
+        elements::BASIN => lead_basin(e, weight, intake.rain_inflow, intake.lead, old),
+        elements::REACH => lead_reach(e, weight, intake.above, old),
+        _ => FiguresAnswer::Refused(Refusal::ElementField),
+    }
 }
 
 // A basin's rains after a step, the latest first.

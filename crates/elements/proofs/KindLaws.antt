@@ -1,11 +1,12 @@
 -- Laws of what a kind decides.
-use Prim.Native.Nat.{ℕ}
+use Prim.Native.Nat.{ℕ, _≤_}
 use mathlib.Core.Bool.{Bool, true, false, cond}
 use mathlib.Core.Logic.{_≢_, ⊎-elim}
 use mathlib.Core.Path.{_≡_, refl}
 use borrow.Author.Tests.{eqb-true, eqb-false, eq-eqb, ne-eqb}
+use native.Mathlib.Omega.{arith}
 use lib.Dec.{eqb}
-use Rattle.elements.specs.Kinds.{basin, reach, byKind, IsKind}
+use Rattle.elements.specs.Kinds.{basin, reach, byKind, basinOf, IsKind}
 
 -- each case of it
 pub by-basin : {A : Type 0} (kind : ℕ) (a b c : A) → kind ≡ basin → byKind kind a b c ≡ a
@@ -49,3 +50,8 @@ kind-both R kind {a} {b} {c} {a′} {b′} {c′} p q r = go (eqb kind basin) (e
     go true y e f = p (eqb-true kind basin e)
     go false true e f = q (eqb-true kind reach f)
     go false false e f = r (eqb-false kind basin e) (eqb-false kind reach f)
+
+-- an element is one basin or none
+pub basin-most : (kind : ℕ) → basinOf kind ≤ 1
+unfolding basinOf
+basin-most kind = kind-cases (λ (n : ℕ). n ≤ 1) kind (λ _. omega arith) (λ _. omega arith) (λ _ _. omega arith)

@@ -15,6 +15,10 @@ reach = 2
 unfoldable pub byKind : {A : Type 0} → ℕ → A → A → A → A
 byKind kind ofBasin ofReach ofNone = cond (eqb kind basin) ofBasin (cond (eqb kind reach) ofReach ofNone)
 
+-- how many basins an element of this kind is
+unfoldable pub basinOf : ℕ → ℕ
+basinOf kind = byKind kind 1 0 0
+
 -- a byte that rule 5 accepts as a kind
 abbrev pub IsKind : ℕ → Type 0
 IsKind kind = (kind ≡ basin) ⊎ (kind ≡ reach)

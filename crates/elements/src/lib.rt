@@ -3,6 +3,7 @@ ghost use mathlib.Core.Path.{_≡_};
 ghost use Prim.Native.Nat.{_+_, _*_, _≤_};
 ghost use lib.ListN.{length};
 ghost use Rattle.elements.specs.Elements.{elementAt};
+ghost use Rattle.elements.specs.Kinds.{basinOf};
 use fields::bytes::whole16;
 use fields::bytes::whole32;
 use fields::bytes::wide;
@@ -69,4 +70,15 @@ pub fn down_at(table: &[u8], i: usize) -> usize
     ensures { λ r. ⌜ r ≡ elementAt (now (table .entry)) i .down ⌝ }
 {
     wide(table[26 * i + 10 + 1]) as usize
+}
+
+// How many basins an element of this kind is.
+pub fn basin_of(kind: u64) -> usize
+    ensures { λ r. ⌜ (r ≡ basinOf kind) × (r ≤ 1) ⌝ }
+{
+    match kind {
+        BASIN => 1,
+        REACH => 0,
+        _ => 0,
+    }
 }

@@ -2,7 +2,7 @@
 use Prim.{Unit}
 use Prim.Native.Nat.{ℕ}
 use mathlib.Core.Bool.{true, false}
-use mathlib.Core.List.{List}
+use mathlib.Core.List.{List, []}
 use mathlib.Core.Path.{_≡_, refl, sym, ap, subst, _∙_}
 use Rattle.refusal.specs.Refusals.{number}
 use Rattle.refusal.specs.Answers.{Answer, accepted, refused}
@@ -12,6 +12,7 @@ use Rattle.refusal.specs.declared.Verdict.the-variants.{Accepted, Refused}
 use Rattle.refusal.specs.Verdicts.{verdictAnswer}
 use Rattle.units.specs.Ceiling.{underCeiling}
 use Rattle.method.specs.declared.Figures.{Figures}
+use Rattle.table.specs.declared.Counts.{Counts}
 use Rattle.table.specs.Tables.{TableValues}
 use Rattle.table.specs.Rules.{tableRules}
 use Rattle.table.specs.InUse.{tableIn}
@@ -30,18 +31,24 @@ use Rattle.network.specs.declared.ForecastAnswer.{ForecastAnswer}
 use Rattle.network.specs.declared.ForecastAnswer.the-variants as of-forecast
 use Rattle.network.specs.Answer.{leadsAnswer}
 use Rattle.network.specs.Lent.{countWritten, lentAfter, Lent}
+use Rattle.element_weights.specs.Weights.{Weighed}
+use Rattle.element_weights.proofs.WeightsLaws.{none-held}
 use Rattle.entries.specs.Entries.{startAnswer, stepOnAnswer, forecastOnAnswer, forecastAnswer}
+use Rattle.engine.specs.Held.{Counted}
+
+-- a call that keeps no weights
+pub unweighed : {bytes : List ℕ} {counts : Counts} → Counted bytes counts → Weighed bytes counts []
+unweighed h = record { table = h .table; held = h .held; basins = h .basins; weights = none-held _ }
 
 -- ---- the start
 
 pub start-accepted :
-    (bytes : List ℕ) (s after : State) (v : Verdict)
+    (bytes : List ℕ) (s after : State)
     → tableRules {A = Unit} bytes (accepted tt) ≡ accepted tt
-    → v ≡ Accepted
     → after ≡ started (tableIn bytes) s
-    → Answered v after (startAnswer bytes s) s
+    → Answered Accepted after (startAnswer bytes s) s
 unfolding startAnswer
-start-accepted bytes s after v k e h = answered-accepted e (table-laws.rules-accepted bytes _ k) h
+start-accepted bytes s after k h = answered-accepted refl (table-laws.rules-accepted bytes _ k) h
 
 -- an answer that the table's rules refuse
 pub refused-by-table :

@@ -1,23 +1,18 @@
 // The entries of document 01: start, step and forecast, on the bytes of a table and on lent numbers.
 ghost use mathlib.Core.Path.{_≡_};
 ghost use mathlib.Core.Bool.{true};
-ghost use Prim.Native.Nat.{_≤_};
 ghost use lib.ListN.{length};
-ghost use Rattle.sizes.specs.Sizes.{smallElements};
 ghost use Rattle.table.specs.InUse.{tableIn};
 ghost use Rattle.state.specs.Rules.{stateFits};
 ghost use Rattle.state.specs.Answers.{Answered};
-ghost use Rattle.plan.specs.Plans.{PlanFits};
+ghost use Rattle.element_weights.specs.Weights.{Weighed};
 ghost use Rattle.network.specs.Lent.{Lent};
 ghost use Rattle.entries.specs.Entries.{startAnswer, stepOnAnswer, stepAnswer, forecastOnAnswer, forecastAnswer};
 ghost use Rattle.engine.specs.Held.{Counted};
 use network::ForecastAnswer;
-use plan::Plan;
 use refusal::Refusal;
 use refusal::Verdict;
-use sizes::MOST_ELEMENTS;
 use sizes::OBSERVED_NUMBERS;
-use sizes::SMALL_ELEMENTS;
 use sizes::STATE_NUMBERS;
 use table::Counts;
 
@@ -31,21 +26,22 @@ pub fn start(table: &[u8], state: &mut [u64; STATE_NUMBERS]) -> Verdict
     match verdict {
         Verdict::Accepted => {
             first_values::start_on(table, counts.elements, state);
-            verdict
+            Verdict::Accepted
         }
         Verdict::Refused(_) => verdict,
     }
 }
 
-// A step on an accepted table, its plan and weights, and the bytes of a record, from a state that rule 8 accepts: rules 9 to 14 and 16.
+// A step on an accepted table, its counts, weights of its elements (or none) and the bytes of a record, from a state that rule 8 accepts:
+// rules 9 to 14 and 16.
 pub fn step_from(
     table: &[u8],
-    plan: Plan,
+    counts: Counts,
     weights: &[u64],
     bytes: &[u8],
     state: &mut [u64; STATE_NUMBERS],
 ) -> Verdict
-    requires { ⌜ PlanFits (now table) plan (now weights) × (stateFits (tableIn (now table)) (now state) ≡ true) ⌝ }
+    requires { ⌜ Weighed (now table) counts (now weights) × (stateFits (tableIn (now table)) (now state) ≡ true) ⌝ }
     ensures { λ r. ⌜ Answered r (now (state .exit)) (stepOnAnswer (tableIn (now (table .entry))) (now (bytes .entry)) (now (state .entry))) (now (state .entry)) ⌝ }
 {
     if !state::steps_left(&*state) {
@@ -55,44 +51,15 @@ pub fn step_from(
     let verdict = record_reader::read(
         bytes,
         table,
-        plan.elements,
-        plan.gauges,
-        plan.basins,
+        counts.elements,
+        counts.gauges,
+        counts.basins,
         &mut observed,
     );
     match verdict {
-        Verdict::Accepted => network_step::step_on(table, plan, weights, bytes, &observed, state),
+        Verdict::Accepted => network_step::step_on(table, counts, weights, bytes, &observed, state),
         Verdict::Refused(_) => verdict,
     }
-}
-
-// The weights of a small river, and of any.
-fn step_small(
-    table: &[u8],
-    counts: Counts,
-    bytes: &[u8],
-    state: &mut [u64; STATE_NUMBERS],
-) -> Verdict
-    requires { ⌜ Counted (now table) counts × ((stateFits (tableIn (now table)) (now state) ≡ true) × (counts .elements ≤ smallElements)) ⌝ }
-    ensures { λ r. ⌜ Answered r (now (state .exit)) (stepOnAnswer (tableIn (now (table .entry))) (now (bytes .entry)) (now (state .entry))) (now (state .entry)) ⌝ }
-{
-    let mut weights = [0u64; SMALL_ELEMENTS];
-    let plan = plan::prepare(table, counts, &mut weights);
-    step_from(table, plan, &weights, bytes, state)
-}
-
-fn step_large(
-    table: &[u8],
-    counts: Counts,
-    bytes: &[u8],
-    state: &mut [u64; STATE_NUMBERS],
-) -> Verdict
-    requires { ⌜ Counted (now table) counts × (stateFits (tableIn (now table)) (now state) ≡ true) ⌝ }
-    ensures { λ r. ⌜ Answered r (now (state .exit)) (stepOnAnswer (tableIn (now (table .entry))) (now (bytes .entry)) (now (state .entry))) (now (state .entry)) ⌝ }
-{
-    let mut weights = [0u64; MOST_ELEMENTS];
-    let plan = plan::prepare(table, counts, &mut weights);
-    step_from(table, plan, &weights, bytes, state)
 }
 
 // A step on an accepted table and the bytes of a record: rules 8 to 14 and 16.
@@ -108,11 +75,8 @@ fn step_counted(
     if !state_rules::state_fits(table, counts.elements, &*state) {
         return Verdict::Refused(Refusal::StateRange);
     }
-    if counts.elements <= SMALL_ELEMENTS {
-        step_small(table, counts, bytes, state)
-    } else {
-        step_large(table, counts, bytes, state)
-    }
+    let none = [0u64; 0];
+    step_from(table, counts, &none, bytes, state)
 }
 
 // A step on the bytes of a table and of a record: rules 1 to 14 and 16.
@@ -125,35 +89,6 @@ pub fn step(table: &[u8], bytes: &[u8], state: &mut [u64; STATE_NUMBERS]) -> Ver
         Verdict::Accepted => step_counted(table, read.counts, bytes, state),
         Verdict::Refused(_) => verdict,
     }
-}
-
-// The weights of a small river, and of any, for a forecast.
-fn forecast_small(
-    table: &[u8],
-    counts: Counts,
-    state: &[u64; STATE_NUMBERS],
-    out: &mut [u64],
-) -> ForecastAnswer
-    requires { ⌜ Counted (now table) counts × ((stateFits (tableIn (now table)) (now state) ≡ true) × (counts .elements ≤ smallElements)) ⌝ }
-    ensures { λ r. ⌜ Lent r (now (out .exit)) (forecastOnAnswer (tableIn (now (table .entry))) (now (state .entry)) (length (now (out .entry)))) (now (out .entry)) ⌝ }
-{
-    let mut weights = [0u64; SMALL_ELEMENTS];
-    let plan = plan::prepare(table, counts, &mut weights);
-    leads::forecast_on(table, plan, &weights, state, out)
-}
-
-fn forecast_large(
-    table: &[u8],
-    counts: Counts,
-    state: &[u64; STATE_NUMBERS],
-    out: &mut [u64],
-) -> ForecastAnswer
-    requires { ⌜ Counted (now table) counts × (stateFits (tableIn (now table)) (now state) ≡ true) ⌝ }
-    ensures { λ r. ⌜ Lent r (now (out .exit)) (forecastOnAnswer (tableIn (now (table .entry))) (now (state .entry)) (length (now (out .entry)))) (now (out .entry)) ⌝ }
-{
-    let mut weights = [0u64; MOST_ELEMENTS];
-    let plan = plan::prepare(table, counts, &mut weights);
-    leads::forecast_on(table, plan, &weights, state, out)
 }
 
 // A forecast on an accepted table into lent space: rules 8, 15 and 16.
@@ -169,11 +104,8 @@ fn forecast_counted(
     if !state_rules::state_fits(table, counts.elements, state) {
         return ForecastAnswer::Refused(Refusal::StateRange);
     }
-    if counts.elements <= SMALL_ELEMENTS {
-        forecast_small(table, counts, state, out)
-    } else {
-        forecast_large(table, counts, state, out)
-    }
+    let none = [0u64; 0];
+    leads::forecast_on(table, counts, &none, state, out)
 }
 
 // A forecast on the bytes of a table into lent space: rules 1 to 8, 15 and 16.

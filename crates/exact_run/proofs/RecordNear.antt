@@ -23,7 +23,8 @@ use Rattle.record.specs.declared.Observation.{Observation}
 use Rattle.record.specs.declared.Observation.the-variants.{Nothing}
 use Rattle.record.specs.declared.Reading.{Reading}
 use Rattle.record.specs.declared.Reading.the-variants.{At, Gap}
-use Rattle.record.specs.Records.{basinCount, piecesOf, readingAt, rateAnswer, observationOf, acceptedObservation, observationAt, atElement, inputRain, inputObservation, inputAt}
+use Rattle.record.specs.Records.{piecesOf, readingAt, rateAnswer, observationOf, acceptedObservation, observationAt, atElement, inputRain, inputObservation, inputAt}
+use Rattle.table.specs.Basins.{basinCount}
 use Rattle.record.specs.Rules.{isAccepted, lengthFits, versionFits, rainFits, stageFits, readingFits, recordRules}
 use Rattle.network.specs.Step.{stepOwn, observedIn}
 use Rattle.exact_run.specs.ExactStep.{ExactObservation, nothing, exactReading, exactObserved, exactObservationIn, exactOwn}

@@ -18,7 +18,9 @@ use Rattle.network.specs.Forecast.{rainCount, rainSum, forecastOwn, leadFigures
 use Rattle.network.specs.Lent.{layout}
 use Rattle.network.specs.Step.{weightOf, networkDown, networkCell, networkOutflow, aboveOf, newFigures, networkNumbers, stepOwn, observedIn, noObservation, stepFigures, stepPut, stepped, stepNumbers}
 use Rattle.rating.specs.Rating.{pieceFor, depth, dischargeAt, onPiece, rated}
-use Rattle.record.specs.Records.{basinOf, basinsBefore, basinCount, rainAt, stageAt, readingOf, readingAt, piecesOf, rateAnswer, observationOf, acceptedObservation, observationAt, atElement, rainOf, inputRain, inputObservation, inputAt}
+use Rattle.record.specs.Records.{rainAt, stageAt, readingOf, readingAt, piecesOf, rateAnswer, observationOf, acceptedObservation, observationAt, atElement, rainOf, inputRain, inputObservation, inputAt}
+use Rattle.table.specs.Basins.{basinsBefore, basinCount}
+use Rattle.elements.specs.Kinds.{basinOf}
 use Rattle.record.specs.Rules.{rainFits, stageFits, isAccepted, readingFits, recordRules}
 use Rattle.record.specs.Rules as record-rules
 use Rattle.report.specs.Program.{recordBytes, restAfter, recordsText, runText, program}

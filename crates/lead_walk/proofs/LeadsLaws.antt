@@ -1,20 +1,18 @@
 -- The leads of one element, one after the other.
-use Prim.{Unit}
 use Prim.Native.Nat.{ℕ, zero, suc, _+_, _*_, _≤_, _<_}
 use mathlib.Core.List.{List}
-use mathlib.Core.Logic.{_≢_, ⊎-elim}
+use mathlib.Core.Logic.{_≢_, ⊎-elim, inl, inr}
 use mathlib.Core.Path.{_≡_, refl, sym, ap, subst, _∙_}
-use native.Mathlib.Nat.{eq-or-lt-of-le}
+use native.Mathlib.Nat.{add-zero, eq-or-lt-of-le}
+use native.Mathlib.Decide.{decLe}
 use native.Mathlib.Numerals.{add-one}
 use native.Mathlib.Omega.{arith}
 use lib.ListN.{length}
-use Rattle.refusal.specs.Answers.{refused}
 use Rattle.refusal.specs.declared.Refusal.{Refusal}
 use Rattle.refusal.specs.declared.Refusal.the-variants.{AboveCeiling}
 use Rattle.refusal.specs.declared.Verdict.the-variants as of-verdict
 use Rattle.refusal.specs.Verdicts.{verdictAnswer}
 use Rattle.refusal.proofs.RuleLaws.{not-both}
-use Rattle.units.specs.Ceiling.{underCeiling}
 use Rattle.units.proofs.UnderLaws.{Under, none-under, parts-under, both-under, under-accepted, known-under, refused-whole}
 use Rattle.units.proofs.CeilingLaws.{same-accepted, same-refused}
 use Rattle.method.specs.declared.Figures.{Figures}
@@ -27,9 +25,13 @@ use Rattle.answer_space.proofs.PlacesLaws.{put-length, put-here, put-other}
 use Rattle.one_lead.specs.declared.ElementInput.{ElementInput}
 use Rattle.one_lead.specs.declared.Lead.{Lead}
 use Rattle.one_lead.specs.Leads.{leadStep, leadStepNumbers}
-use Rattle.one_lead.specs.Worked.{LeadWorked}
+use Rattle.one_lead.specs.Worked.{stepLead, LeadReady, LeadWorked}
 use Rattle.lead_walk.specs.Leads.{figuresAfter, numbersAfter}
-use Rattle.lead_walk.specs.Worked.{Apart, LeadsReady, drainedAt, LeadsDone, ElementWorked}
+use Rattle.lead_walk.specs.Worked.{Apart, drainedAt, LeadsDone, ElementWorked}
+
+-- a lead, as the code has it
+abbrev leadAt : ElementInput → ℕ → ℕ → ℕ → Lead
+leadAt c here below m = record { number = c .«first_lead» + m; here = here + m; below = below + m }
 
 -- the numbers of each lead, and of all
 module _ (c : ElementInput) (first : Figures) (above : ℕ → Figures) where
@@ -107,10 +109,7 @@ module _ (c : ElementInput) (first : Figures) (here below : ℕ) (before : List 
         leadStepNumbers c (c .«first_lead» + m) (figuresAt now (here + m)) old ≡ leadPart c first (drainedAt before here) m
     numbers-are = rw (above-is, is)
 
-    abbrev leadOf : Lead
-    leadOf = record { number = c .«first_lead» + m; here = here + m; below = below + m }
-
-    module _ (r : FiguresAnswer) (next : List ℕ) (w : LeadWorked r c leadOf old now next) where
+    module _ (r : FiguresAnswer) (next : List ℕ) (w : LeadWorked r c (leadAt c here below m) old now next) where
       -- it is refused, and with it the element
       pub element-refused :
           {k : Refusal}
@@ -204,3 +203,37 @@ pub element-accepted :
 element-accepted c first here below m leads before after e h =
     let g = subst (λ (n : ℕ). LeadsDone c first here below n before after) e h in
     record { verdict = under-accepted tt _ (g .under); done = λ a. g }
+
+-- a step is one lead, of number 0: what its code has worked out
+module _
+    (c : ElementInput) (first : Figures) (here below : ℕ) (before after : List ℕ) (number : c .«first_lead» ≡ 0)
+    (ready : LeadReady c (stepLead here below) first before) (r : FiguresAnswer)
+    (w : LeadWorked r c (stepLead here below) first before after) where
+  begun : LeadsDone c first here below 0 before before
+  begun = done-begin c first here below before (ready .old)
+
+  apart : Apart here below 1
+  apart = go (decLe (here + 1) below) (decLe (below + 1) here)
+    where
+      go : Dec (here + 1 ≤ below) → Dec (below + 1 ≤ here) → Apart here below 1
+      go (yes h) d = inl h
+      go (no h) (yes k) = inr k
+      go (no h) (no k) = absurd (ready .apart (omega arith))
+
+  worked : LeadWorked r c (leadAt c here below 0) first before after
+  worked = subst (λ (lead : Lead). LeadWorked r c lead first before after) same w
+    where
+      same : stepLead here below ≡ leadAt c here below 0
+      same = rw (number, add-zero here, add-zero below)
+
+  -- it is refused
+  pub work-step-refused :
+      {k : Refusal} → r ≡ Refused k → ElementWorked (of-verdict.Refused AboveCeiling) c first here below 1 before after
+  work-step-refused e =
+      element-refused _ _ _ _ _ _ 1 _ _ begun (first-is c first here below before) (omega arith) apart _ _ worked e
+
+  -- it is done
+  pub work-step-done : {x : Figures} → r ≡ Accepted x → LeadsDone c first here below 1 before after
+  work-step-done e =
+      done-again _ _ _ _ _ _ 1 _ _ begun (first-is c first here below before) (omega arith) apart _ _ worked _ e
+      (omega (arith, ready .here)) (omega (arith, ready .below))

@@ -13,6 +13,7 @@ use Rattle.units.specs.Ceiling.{somePasses, underCeiling}
 use Rattle.method.specs.declared.Figures.{Figures}
 use Rattle.method.specs.Figures.{FiguresFit}
 use Rattle.method.specs.Inflow.{joinedInflow}
+use Rattle.record.specs.declared.Observation.the-variants.{Nothing}
 use Rattle.answer_space.specs.Places.{figuresAt, mostSum, FiguresBelow}
 use Rattle.one_lead.specs.declared.ElementInput.{ElementInput}
 use Rattle.one_lead.specs.Worked.{InputInRange}
@@ -24,6 +25,7 @@ Apart here below leads = (here + leads ≤ below) ⊎ (below + leads ≤ here)
 
 pub record LeadsReady (c : ElementInput) (first : Figures) (here below leads : ℕ) (space : List ℕ) : Type 0 where
   pub inRange : InputInRange c
+  pub nothing : c .observation ≡ Nothing
   pub fits : FiguresFit first
   pub short : leads ≤ mostLeads
   pub hereRoom : 4 * (here + leads) ≤ length space

@@ -1,4 +1,4 @@
-// One element through the leads of a forecast, or through a step, which is one lead, of number 0.
+// One element through the leads of a forecast.
 ghost use Rattle.lead_walk.specs.Worked.{LeadsReady, ElementWorked};
 use method::Figures;
 use method::FiguresAnswer;

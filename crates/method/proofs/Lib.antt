@@ -1,1 +1,2 @@
 pub mod FiguresLaws
+pub mod InflowLaws

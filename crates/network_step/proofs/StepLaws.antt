@@ -1,57 +1,57 @@
 -- The loops of a step: what they hold after i elements, one element more, and the end.
 use Prim.{Unit}
 use Prim.Native.Nat.{ℕ, zero, suc, _+_, _*_, _≤_, _<_}
+use mathlib.Core.Bool.{true, false}
 use mathlib.Core.List.{List}
-use mathlib.Core.Logic.{⊎-elim, inl, inr}
+use mathlib.Core.Logic.{⊎-elim}
 use mathlib.Core.Path.{_≡_, refl, sym, ap, subst, _∙_}
 use native.Mathlib.Nat.{zero-mul}
 use native.Mathlib.Omega.{arith}
-use lib.ListN.{length, getD, set, replicate, length-replicate}
+use lib.ListN.{length, getD, replicate, length-replicate}
 use Rattle.sizes.specs.Sizes.{mostElements}
-use Rattle.refusal.specs.Answers.{accepted, refused}
+use Rattle.refusal.specs.Answers.{accepted}
 use Rattle.refusal.specs.declared.Refusal.{Refusal}
 use Rattle.refusal.specs.declared.Refusal.the-variants.{AboveCeiling}
 use Rattle.refusal.specs.declared.Verdict.{Verdict}
 use Rattle.refusal.specs.declared.Verdict.the-variants.{Accepted, Refused}
 use Rattle.refusal.specs.Verdicts.{verdictAnswer}
 use Rattle.refusal.proofs.RuleLaws.{not-both}
-use Rattle.units.specs.Ceiling.{underCeiling}
-use Rattle.units.proofs.CeilingLaws.{same-accepted, same-refused-number}
+use Rattle.units.specs.Units.{S}
+use Rattle.units.proofs.CeilingLaws.{same-accepted, same-refused}
 use Rattle.units.proofs.UnderLaws.{Under, under-accepted, refused-whole}
 use Rattle.method.specs.declared.Figures.{Figures}
 use Rattle.method.specs.Inflow.{noInflow, stepInflow, meanRainInflow}
 use Rattle.inflow.specs.Basin.{basinInflow}
 use Rattle.elements.specs.declared.Element.{Element}
 use Rattle.elements.specs.Elements.{elementAt}
-use Rattle.elements.specs.Kinds.{basin, byKind}
-use Rattle.elements.proofs.KindLaws.{kind-both, by-basin}
+use Rattle.elements.specs.Kinds.{basin}
+use Rattle.elements.proofs.KindLaws.{by-basin}
 use Rattle.table.specs.Tables.{TableValues}
 use Rattle.table.specs.Bounds.{AcceptedTable}
 use Rattle.table.specs.InUse.{tableIn}
 use Rattle.table.proofs.InUseLaws.{element-read}
-use Rattle.table.proofs.HeldLaws.{element-there, element-bounds}
+use Rattle.table.proofs.HeldLaws.{element-bounds}
 use Rattle.record.specs.declared.Observation.{Observation}
-use Rattle.record.specs.Records.{basinsBefore, rainAt, rainOf, inputRain, inputObservation, inputAt}
+use Rattle.record.specs.Records.{rainAt, rainOf, inputRain, inputObservation, inputAt}
+use Rattle.table.specs.Basins.{basinsBefore}
 use Rattle.record.specs.Rules.{recordRules}
-use Rattle.record.specs.Decoded.{ObservationFits, InputFits}
+use Rattle.record.specs.Decoded.{ObservationFits}
 use Rattle.record.proofs.RecordLaws.{rain-there, rain-read, inputs-fit}
-use Rattle.state.specs.declared.Rains.{Rains}
-use Rattle.state.specs.States.{State, ElementState, stepsOf, figuresOf, rainsOf, placeOf, putFigures, putRains, putPlace, putSteps, changed}
-use Rattle.state.specs.Answers.{Answered}
+use Rattle.state.specs.States.{State, figuresOf}
+use Rattle.state.specs.Bounds.{StateBounds}
 use Rattle.state.proofs.AnswerLaws.{answered-accepted, answered-refused}
-use Rattle.state.proofs.StateLaws.{puts-each, changed-later, changed-steps, changed-again}
-use Rattle.element_step.specs.Rains.{shiftedRains}
 use Rattle.element_step.specs.Bounds.{ElementInRange}
 use Rattle.walk.specs.Space.{Later}
-use Rattle.network.specs.Step.{weightOf, networkDown, newFigures, networkNumbers, stepOwn, observedIn, stepFigures, stepPut, stepped, stepNumbers}
-use Rattle.network.proofs.StepLaws.{step-puts}
+use Rattle.network.specs.Step.{weightOf, networkDown, newFigures, networkNumbers, stepOwn, observedIn, stepFigures, stepped, stepNumbers}
 use Rattle.answer_space.specs.Places.{figuresAt, mostSum, FiguresBelow}
 use Rattle.one_lead.specs.declared.ElementInput.{ElementInput}
 use Rattle.one_lead.specs.Leads.{ownAt}
+use Rattle.one_lead.specs.Worked.{stepLead, LeadReady}
 use Rattle.lead_walk.specs.Leads.{numbersAfter}
 use Rattle.lead_walk.specs.Worked.{drainedAt, LeadsDone, ElementWorked}
 use Rattle.lead_walk.proofs.NetworkLaws.{Walked, walked-begin, walked-at, walked-small, InputOf, element-under, walked-again}
-use Rattle.network_step.specs.Held.{stepInput, Cleared, FiguresHeld, StepWorked}
+use Rattle.network_step.specs.Inputs.{inputOf, stepInput}
+use Rattle.network_step.specs.Held.{Cleared, StepWorked, underVerdict, Stepped}
 
 -- the inflow of a step is that of one rain at lead 0
 inflow-same :
@@ -120,21 +120,37 @@ module _ (table bytes : List ℕ) (s : State) where
 
   -- what the record brings it is in its ranges
   module _ (accepts : AcceptedTable table) (kept : recordRules {A = Unit} t bytes (accepted tt) ≡ accepted tt) (i : ℕ) (l : i < t .elements) where
-    pub rain-most : {b : ℕ} → b ≡ basinsBefore t i → rainOf bytes (elementAt table i .kind) b ≤ 3000
-    unfolding inputAt
-    rain-most counted = rw (rain-is i l counted) (inputs-fit t bytes (accepts .bounds) kept i l .rain)
+    pub rain-most : {b : ℕ} → b ≡ basinsBefore t i → elementAt table i .kind ≡ basin → rainAt bytes b ≤ 3000
+    unfolding inputAt rainOf
+    rain-most {b} counted k =
+        let fits : rainOf bytes (elementAt table i .kind) b ≤ 3000 = rw (rain-is i l counted) (inputs-fit t bytes (accepts .bounds) kept i l .rain) in
+        rw (by-basin (elementAt table i .kind) (rainAt bytes b) 0 0 k) at fits
 
     pub rain-room : {b : ℕ} → b ≡ basinsBefore t i → elementAt table i .kind ≡ basin → 2 * b + 5 ≤ length bytes
     rain-room counted k = rain-there t bytes kept i l (kind-is i l) counted k
 
-    pub observation-fits : {seen : Observation} → seen ≡ inputObservation t bytes i (t .gauges) → ObservationFits seen
+    observation-fits : {seen : Observation} → seen ≡ inputObservation t bytes i (t .gauges) → ObservationFits seen
     unfolding inputAt
     observation-fits e = rw e (inputs-fit t bytes (accepts .bounds) kept i l .observation)
 
-    pub in-range : ElementInRange (elementAt table i)
+    in-range : ElementInRange (elementAt table i)
     in-range =
         let e = element-bounds table accepts l in
         record { kind = e .kind; systemNoise = omega (arith, e .systemNoise); rainNoise = e .rainNoise }
+
+  -- what drains into the place below is small
+  stepping-small :
+      (i : ℕ) (space : List ℕ)
+      → Stepping i space
+      → i < mostElements
+      → (d : ℕ)
+      → Later i d
+      → FiguresBelow (figuresAt space d) mostSum
+  stepping-small i space h few d to =
+      subst (λ (p : ℕ). FiguresBelow (figuresAt space p) mostSum) (place-is d) (walked-small t own o figuresBy 1 0 1 i space h few d to 0 (omega arith))
+    where
+      place-is : (d : ℕ) → d * 1 + 0 + 0 ≡ d
+      place-is d = omega arith
 
   -- element i, as the code takes it
   module _
@@ -143,19 +159,57 @@ module _ (table bytes : List ℕ) (s : State) where
     abbrev taken : ElementInput
     taken = stepInput table i weight bytes b seen
 
-    own-is : (lead : ℕ) → lead < 1 → ownAt taken (0 + lead) ≡ stepOwn t (inputAt t bytes) i
-    unfolding ownAt stepOwn stepInput inputAt
-    own-is lead m = rw (rain-is i l counted, ← element-read table i l) (inflow-same _ _ _ _ lead m)
+    own-is : (lead : ℕ) → lead < 1 → t .element i .kind ≡ basin → ownAt taken (0 + lead) ≡ stepOwn t (inputAt t bytes) i
+    unfolding ownAt stepOwn stepInput inputOf inputAt inputRain rainOf
+    own-is lead m k =
+        rw (
+          ← element-read table i l,
+          by-basin (t .element i .kind) (meanRainInflow (rainAt bytes b) 1 (t .element i .area) (t .element i .runoff)) 0 0 k,
+          by-basin (t .element i .kind) (rainAt bytes (basinsBefore t i)) 0 0 k,
+          counted,
+        )
+        (inflow-same _ _ _ _ lead m)
 
     input-of : InputOf t own o figuresBy 1 0 taken i 1
-    unfolding stepInput observedIn inputAt
+    unfolding stepInput inputOf observedIn inputAt
     input-of =
         record {
           element = sym (element-read table i l);
           weight = w;
           observation = observed;
-          inflow = λ lead m k. own-is lead m;
+          inflow = own-is;
         }
+
+    -- it is ready to be worked out
+    pub step-ready :
+        {c : ElementInput} {first : Figures} (space : List ℕ)
+        → AcceptedTable table
+        → recordRules {A = Unit} t bytes (accepted tt) ≡ accepted tt
+        → StateBounds t s
+        → weight ≤ S
+        → c ≡ taken
+        → first ≡ figuresOf s i
+        → Stepping i space
+        → 4 * (t .elements + 1) ≤ length space
+        → LeadReady c (stepLead (i + 1) (c .element .down)) first space
+    unfolding stepInput inputOf
+    step-ready space accepts kept state few same is h room =
+        let e = element-bounds table accepts l in
+        rw (same, is)
+        (record {
+          inRange = record {
+            element = in-range accepts kept i l;
+            weight = few;
+            firstLead = omega arith;
+            observation = observation-fits accepts kept i l observed;
+          };
+          number = omega arith;
+          here = omega (arith, room);
+          below = omega (arith, e .down, room);
+          apart = λ q. ⊎-elim (λ z. omega arith) (λ m. omega arith) (e .later);
+          old = state .figures i l;
+          small = stepping-small i space h (omega (arith, accepts .bounds .elementsMost)) (elementAt table i .down) (e .later);
+        })
 
     -- its places
     here-is : i + 1 ≡ (i + 1) * 1 + 0
@@ -167,17 +221,18 @@ module _ (table bytes : List ℕ) (s : State) where
     module _ (before : List ℕ) (h : Stepping i before) (c : ElementInput) (same : c ≡ taken) (first : Figures) (is : first ≡ figuresOf s i) where
       -- one element more
       pub stepping-again :
-          (after : List ℕ)
-          → LeadsDone c first (i + 1) (elementAt table i .down) 1 before after
+          {d : ℕ} (after : List ℕ)
+          → d ≡ elementAt table i .down
+          → LeadsDone c first (i + 1) d 1 before after
           → Later i (elementAt table i .down)
           → Stepping (i + 1) after
       unfolding networkDown
-      stepping-again after g to =
+      stepping-again {d} after down g to =
           walked-again t own o figuresBy 1 0 taken i 1 input-of by-again first (is ∙ by-none i) before h (elementAt table i .down)
           (ap (λ (e : Element). e .down) (sym (element-read table i l))) to (omega arith) after
           (subst (λ (k : ℕ). LeadsDone taken first k (elementAt table i .down * 1 + 0) 1 before after) here-is
-          (subst (λ (k : ℕ). LeadsDone taken first (i + 1) k 1 before after) (below-is (elementAt table i .down))
-          (subst (λ (x : ElementInput). LeadsDone x first (i + 1) (elementAt table i .down) 1 before after) same g)))
+          (subst (λ (k : ℕ). LeadsDone taken first (i + 1) k 1 before after) (down ∙ below-is (elementAt table i .down))
+          (subst (λ (x : ElementInput). LeadsDone x first (i + 1) d 1 before after) same g)))
 
       -- it refuses, and with it the step
       part : Under (stepNumbers t (inputAt t bytes) s) → Under (numbersAfter c first (drainedAt before (i + 1)) 1)
@@ -188,31 +243,14 @@ module _ (table bytes : List ℕ) (s : State) where
           (λ lead m. numbers-before lead (omega arith) u)))
 
       pub stepping-refused :
-          (v : Verdict) {k : Refusal} {after space : List ℕ}
-          → ElementWorked v c first (i + 1) (elementAt table i .down) 1 before after
-          → v ≡ Refused k
+          {d : ℕ} {after space : List ℕ}
+          → ElementWorked (Refused AboveCeiling) c first (i + 1) d 1 before after
           → StepWorked (Refused AboveCeiling) space t bytes s
-      stepping-refused v q e =
+      stepping-refused q =
           record {
-            decided = refused-whole tt _ (stepNumbers t (inputAt t bytes) s) part (sym (ap verdictAnswer e) ∙ q .verdict);
+            decided = refused-whole tt _ (stepNumbers t (inputAt t bytes) s) part (q .verdict);
             held = λ a. absurd (not-both (ap verdictAnswer a) refl);
           }
-
-  -- what drains into the place below is small
-  pub stepping-small :
-      (i : ℕ) (space : List ℕ)
-      → Stepping i space
-      → i < mostElements
-      → (d : ℕ)
-      → Later i d
-      → (l : ℕ)
-      → l < 1
-      → FiguresBelow (figuresAt space (d + l)) mostSum
-  stepping-small i space h few d to l m =
-      subst (λ (p : ℕ). FiguresBelow (figuresAt space p) mostSum) (place-is d l) (walked-small t own o figuresBy 1 0 1 i space h few d to l m)
-    where
-      place-is : (d l : ℕ) → d * 1 + 0 + l ≡ d + l
-      place-is d l = omega arith
 
   -- all elements are worked out
   pub stepping-done : {i : ℕ} (space : List ℕ) → Stepping i space → i ≡ t .elements → StepWorked Accepted space t bytes s
@@ -225,65 +263,14 @@ module _ (table bytes : List ℕ) (s : State) where
       place-is : (k : ℕ) → (k + 1) * 1 + 0 + 0 ≡ k + 1
       place-is k = omega arith
 
-  -- ---- the state
-
-  abbrev pub change : ℕ → State → State
-  change = stepPut t (inputAt t bytes) s
-
-  -- the place of element i, whose change has not come yet
-  rains-before : (i : ℕ) → rainsOf (changed change i s) i ≡ rainsOf s i
-  unfolding placeOf
-  rains-before i =
-      ap (λ (p : ElementState). p .rains) (changed-later change (puts-each t _ _ _ (step-puts t (inputAt t bytes) s)) s i i (omega arith))
-
-  pub written-again :
-      (i : ℕ) {kind b : ℕ} {x : Figures} {now next : State}
-      → i < t .elements
-      → now ≡ changed change i s
-      → kind ≡ elementAt table i .kind
-      → b ≡ basinsBefore t i
-      → x ≡ stepFigures t (inputAt t bytes) s i
-      → next ≡ putPlace kind x (shiftedRains (rainAt bytes b) (rainsOf now i)) i now
-      → next ≡ changed change (i + 1) s
-  unfolding stepPut putPlace inputAt inputRain rainOf
-  written-again i {kind} {b} {x} {now} l h k counted xs n =
-      n ∙ (rw (k ∙ ap (λ (e : Element). e .kind) (sym (element-read table i l)), xs, counted) same ∙ changed-again change i s now h)
-    where
-      same :
-          byKind (t .element i .kind)
-          (putRains (putFigures now i (stepFigures t (inputAt t bytes) s i)) i (shiftedRains (rainAt bytes (basinsBefore t i)) (rainsOf now i)))
-          (putFigures now i (stepFigures t (inputAt t bytes) s i)) (putFigures now i (stepFigures t (inputAt t bytes) s i))
-          ≡ change i now
-      same =
-          kind-both (λ (p q : State). p ≡ q) (t .element i .kind)
-          (λ b. rw (by-basin (t .element i .kind) (rainAt bytes (basinsBefore t i)) 0 0 b, h, rains-before i)) (λ _. refl) (λ _ _. refl)
-
-  -- the step count has not changed yet
-  pub written-steps : (i : ℕ) {now : State} → now ≡ changed change i s → stepsOf now ≡ stepsOf s
-  written-steps i h = ap stepsOf h ∙ changed-steps change (puts-each t _ _ _ (step-puts t (inputAt t bytes) s)) s i
-
-  pub written-done :
-      {i : ℕ} (now : State) (steps : ℕ)
-      → i ≡ t .elements
-      → now ≡ changed change i s
-      → steps ≡ stepsOf s
-      → set now 1 (steps + 1) ≡ stepped t (inputAt t bytes) s
-  unfolding stepped
-  written-done now steps e h k = rw (h, e, k)
-
   -- ---- the step's answer
-  module _ {v : Verdict} {space : List ℕ} (h : StepWorked v space t bytes s) where
-    pub step-accepted :
-        {after : State}
-        → v ≡ Accepted
-        → after ≡ stepped t (inputAt t bytes) s
-        → Answered v after (underCeiling (stepNumbers t (inputAt t bytes) s) (stepped t (inputAt t bytes) s)) s
-    step-accepted e n =
-        answered-accepted e (same-accepted tt (stepped t (inputAt t bytes) s) _ (sym (ap verdictAnswer e) ∙ h .decided) .1) n
 
-    pub step-refused :
-        {k : Refusal} {after : State}
-        → v ≡ Refused k
-        → after ≡ s
-        → Answered v after (underCeiling (stepNumbers t (inputAt t bytes) s) (stepped t (inputAt t bytes) s)) s
-    step-refused {k} e n = answered-refused e (same-refused-number tt _ _ (sym (h .decided) ∙ ap verdictAnswer e)) n
+  module _ {v : Verdict} {space : List ℕ} (h : StepWorked v space t bytes s) where
+    pub step-accepted : {after : State} → v ≡ Accepted → after ≡ stepped t (inputAt t bytes) s → Stepped (underVerdict true) table bytes s after
+    unfolding underVerdict
+    step-accepted e n =
+        answered-accepted refl (same-accepted tt (stepped t (inputAt t bytes) s) _ (sym (ap verdictAnswer e) ∙ h .decided) .1) n
+
+    pub step-refused : {k : Refusal} {after : State} → v ≡ Refused k → after ≡ s → Stepped (underVerdict false) table bytes s after
+    unfolding underVerdict
+    step-refused e n = answered-refused refl (same-refused tt _ _ (sym (ap verdictAnswer e) ∙ h .decided)) n

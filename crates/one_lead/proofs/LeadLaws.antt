@@ -1,7 +1,6 @@
--- What the code of one lead answers.
+-- What the code of one lead, or of a step, answers.
 use Prim.Native.Nat.{ℕ}
 use mathlib.Core.List.{List}
-use mathlib.Core.Logic.{_≢_}
 use mathlib.Core.Path.{_≡_, refl, sym, ap, subst, _∙_}
 use Rattle.refusal.specs.declared.Refusal.{Refusal}
 use Rattle.refusal.specs.declared.Refusal.the-variants.{AboveCeiling}
@@ -11,60 +10,54 @@ use Rattle.units.proofs.CeilingLaws.{same-refused}
 use Rattle.method.specs.declared.Figures.{Figures}
 use Rattle.method.specs.declared.FiguresAnswer.{FiguresAnswer}
 use Rattle.method.specs.declared.FiguresAnswer.the-variants.{Accepted, Refused}
-use Rattle.method.specs.Figures.{figuresAnswer, FiguresFit}
-use Rattle.method.specs.Inflow.{joinedInflow}
+use Rattle.method.specs.Figures.{figuresAnswer, AnsweredFiguresFit}
+use Rattle.method.proofs.FiguresLaws.{accepted-fits}
 use Rattle.element_step.specs.Answers.{elementAnswer}
-use Rattle.answer_space.specs.Places.{figuresAt, put}
-use Rattle.answer_space.proofs.PlacesLaws.{put-other}
+use Rattle.answer_space.specs.Places.{figuresAt, putAndAdded, PlacesReady}
 use Rattle.one_lead.specs.declared.ElementInput.{ElementInput}
 use Rattle.one_lead.specs.declared.Lead.{Lead}
 use Rattle.one_lead.specs.Leads.{ownAt, leadStep, leadStepNumbers}
-use Rattle.one_lead.specs.Worked.{LeadKept, LeadWorked}
+use Rattle.one_lead.specs.Worked.{LeadReady, LeadKept, LeadWorked}
 
-module _ (c : ElementInput) (lead : Lead) (old : Figures) (before after : List ℕ) where
-  abbrev drains : Figures
-  drains = figuresAt before (lead .here)
-
-  -- what the step of the element says, of the figures as they were read
-  pub step-known :
-      (above : Figures) (r : FiguresAnswer)
-      → above ≡ drains
-      → figuresAnswer r
-      ≡ elementAnswer (c .weight) (c .element)
-      (record { «rain_inflow» = c .«rain_inflow»; lead = lead .number; above = above; observation = c .observation }) old
-      → figuresAnswer r ≡ underCeiling (leadStepNumbers c (lead .number) drains old) (leadStep c (lead .number) drains old)
+-- the figures that drain in, as they were read, and what the element answered of them
+module _
+    (c : ElementInput) (lead : Lead) (old : Figures) (before : List ℕ) (above : Figures) (r : FiguresAnswer)
+    (read : above ≡ figuresAt before (lead .here))
+    (answered :
+    (figuresAnswer r
+    ≡ elementAnswer (c .weight) (c .element)
+    (record { «rain_inflow» = c .«rain_inflow»; lead = lead .number; above = above; observation = c .observation }) old)
+    × AnsweredFiguresFit r) where
+  known :
+      figuresAnswer r
+      ≡ underCeiling (leadStepNumbers c (lead .number) (figuresAt before (lead .here)) old)
+      (leadStep c (lead .number) (figuresAt before (lead .here)) old)
   unfolding elementAnswer ownAt leadStep leadStepNumbers
-  step-known above r e h = rw (← e) h
+  known = rw (← read) (answered .0)
 
-  module _
-      (r : FiguresAnswer)
-      (h : figuresAnswer r ≡ underCeiling (leadStepNumbers c (lead .number) drains old) (leadStep c (lead .number) drains old)) where
-    pub lead-refused : {k : Refusal} → r ≡ Refused k → LeadWorked (Refused AboveCeiling) c lead old before after
-    lead-refused e =
-        record {
-          answer = sym (same-refused _ _ _ (sym (ap figuresAnswer e) ∙ h));
-          kept = λ x a. absurd (not-both (ap figuresAnswer a) refl);
-        }
+  pub lead-refused : {k : Refusal} {after : List ℕ} → r ≡ Refused k → LeadWorked (Refused AboveCeiling) c lead old before after
+  lead-refused e =
+      record {
+        answer = sym (same-refused _ _ _ (sym (ap figuresAnswer e) ∙ known));
+        kept = λ x a. absurd (not-both (ap figuresAnswer a) refl);
+      }
 
-    -- the sum below is read after the figures stand at another place
+  module _ (x : Figures) (e : r ≡ Accepted x) where
+    pub places-ready : LeadReady c lead old before → PlacesReady before (lead .here) (lead .below) x
+    places-ready h =
+        record { hereRoom = h .here; belowRoom = h .below; apart = h .apart; small = h .small; fits = accepted-fits e (answered .1) }
+
     pub lead-accepted :
-        (x : Figures) (middle : List ℕ)
-        → r ≡ Accepted x
-        → FiguresFit x
-        → lead .below ≢ lead .here
-        → middle ≡ put before (lead .here) x
-        → after ≡ put middle (lead .below) (joinedInflow (figuresAt middle (lead .below)) x)
+        {after : List ℕ}
+        → after ≡ putAndAdded before (lead .here) (lead .below) x
         → LeadWorked (Accepted x) c lead old before after
-    lead-accepted x middle e fits apart m a =
+    lead-accepted {after} written =
         record {
-          answer = sym (ap figuresAnswer e) ∙ h;
-          kept = λ y v. subst (λ (z : Figures). LeadKept z lead before after) (same v) (record { fits = fits; written = written });
+          answer = sym (ap figuresAnswer e) ∙ known;
+          kept = λ y v.
+              subst (λ (z : Figures). LeadKept z lead before after) (same v)
+              (record { fits = accepted-fits e (answered .1); written = written });
         }
       where
         same : {y : Figures} → Accepted x ≡ Accepted y → x ≡ y
         same v = cc
-
-        written : after ≡ put (put before (lead .here) x) (lead .below) (joinedInflow (figuresAt before (lead .below)) x)
-        written =
-            a
-            ∙ rw m (ap (λ (f : Figures). put (put before (lead .here) x) (lead .below) (joinedInflow f x)) (put-other before (lead .here) x (lead .below) apart))

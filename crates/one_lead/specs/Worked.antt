@@ -10,13 +10,16 @@ use Rattle.method.specs.declared.Figures.{Figures}
 use Rattle.method.specs.declared.FiguresAnswer.{FiguresAnswer}
 use Rattle.method.specs.declared.FiguresAnswer.the-variants.{Accepted}
 use Rattle.method.specs.Figures.{figuresAnswer, FiguresFit}
-use Rattle.method.specs.Inflow.{joinedInflow}
 use Rattle.record.specs.Decoded.{ObservationFits}
 use Rattle.element_step.specs.Bounds.{ElementInRange}
-use Rattle.answer_space.specs.Places.{figuresAt, put, mostSum, FiguresBelow}
+use Rattle.answer_space.specs.Places.{figuresAt, putAndAdded, mostSum, FiguresBelow}
 use Rattle.one_lead.specs.declared.ElementInput.{ElementInput}
 use Rattle.one_lead.specs.declared.Lead.{Lead}
 use Rattle.one_lead.specs.Leads.{leadStep, leadStepNumbers}
+
+-- a step is one lead, of number 0
+abbrev pub stepLead : ℕ → ℕ → Lead
+stepLead here below = record { number = 0; here = here; below = below }
 
 pub record InputInRange (c : ElementInput) : Type 0 where
   pub element : ElementInRange (c .element)
@@ -36,8 +39,7 @@ pub record LeadReady (c : ElementInput) (lead : Lead) (before : Figures) (space 
 -- the figures x of a lead stand at its place, and are added at the place below
 pub record LeadKept (x : Figures) (lead : Lead) (before after : List ℕ) : Type 0 where
   pub fits : FiguresFit x
-  pub written :
-      after ≡ put (put before (lead .here) x) (lead .below) (joinedInflow (figuresAt before (lead .below)) x)
+  pub written : after ≡ putAndAdded before (lead .here) (lead .below) x
 
 pub record LeadWorked (r : FiguresAnswer) (c : ElementInput) (lead : Lead) (old : Figures) (before after : List ℕ) : Type 0 where
   pub answer :

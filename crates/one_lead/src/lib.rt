@@ -1,10 +1,12 @@
 // One element at one lead of a forecast, or at a step: its figures take the place of what drained into it, and are added to what drains
 // into the element below.
-ghost use Rattle.one_lead.specs.Worked.{LeadReady, LeadWorked};
-use answer_space::add_figures;
+ghost use mathlib.Core.Path.{_≡_};
+ghost use Rattle.record.specs.declared.Observation.the-variants.{Nothing};
+ghost use Rattle.one_lead.specs.Worked.{stepLead, LeadReady, LeadWorked};
 use answer_space::figures_at;
-use answer_space::put_figures;
+use answer_space::put_and_add;
 use element_step::Intake;
+use element_step::lead_element;
 use element_step::step_element;
 use elements::Element;
 use method::Figures;
@@ -31,7 +33,7 @@ pub struct Lead {
 
 // One lead of an element, from its figures before it: its figures, which now stand at its place, where what drains into it stood.
 pub fn work_lead(input: ElementInput, lead: Lead, old: Figures, space: &mut [u64]) -> FiguresAnswer
-    requires { ⌜ LeadReady input lead old (now space) ⌝ }
+    requires { ⌜ LeadReady input lead old (now space) × (input .observation ≡ Nothing) ⌝ }
     ensures { λ r. ⌜ LeadWorked r input lead old (now (space .entry)) (now (space .exit)) ⌝ }
 {
     let above = figures_at(&*space, lead.here);
@@ -42,10 +44,35 @@ pub fn work_lead(input: ElementInput, lead: Lead, old: Figures, space: &mut [u64
         above,
         observation,
     };
+    let FiguresAnswer::Accepted(new) = lead_element(input.element, input.weight, intake, old) else {
+        return FiguresAnswer::Refused(Refusal::AboveCeiling);
+    };
+    put_and_add(&mut *space, lead.here, lead.below, new);
+    FiguresAnswer::Accepted(new)
+}
+
+// The step of an element, in the same way.
+pub fn work_step(
+    input: ElementInput,
+    here: usize,
+    below: usize,
+    old: Figures,
+    space: &mut [u64],
+) -> FiguresAnswer
+    requires { ⌜ LeadReady input (stepLead here below) old (now space) ⌝ }
+    ensures { λ r. ⌜ LeadWorked r input (stepLead here below) old (now (space .entry)) (now (space .exit)) ⌝ }
+{
+    let above = figures_at(&*space, here);
+    let observation = input.observation;
+    let intake = Intake {
+        rain_inflow: input.rain_inflow,
+        lead: 0,
+        above,
+        observation,
+    };
     let FiguresAnswer::Accepted(new) = step_element(input.element, input.weight, intake, old) else {
         return FiguresAnswer::Refused(Refusal::AboveCeiling);
     };
-    put_figures(&mut *space, lead.here, new);
-    add_figures(&mut *space, lead.below, new);
+    put_and_add(&mut *space, here, below, new);
     FiguresAnswer::Accepted(new)
 }

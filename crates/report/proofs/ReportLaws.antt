@@ -25,8 +25,8 @@ use Rattle.state.specs.States.{State, stepsOf}
 use Rattle.state.specs.Rules.{stateFits}
 use Rattle.state.specs.Answers.{verdict, stateAfter, Answered}
 use Rattle.state.proofs.AnswerLaws.{answered-next}
-use Rattle.plan.specs.declared.Plan.{Plan}
-use Rattle.plan.specs.Plans.{PlanFits}
+use Rattle.table.specs.declared.Counts.{Counts}
+use Rattle.element_weights.specs.Weights.{Weighed}
 use Rattle.network.specs.Lent.{layout}
 use Rattle.entries.specs.Entries.{stepAnswer, stepOnAnswer, forecastAnswer, forecastOnAnswer}
 use Rattle.entries.proofs.NextLaws.{next-fits, next-length}
@@ -161,30 +161,30 @@ pub reported-on :
 reported-on t s a b {r} {before} {out} {after} {at} e h =
     subst (λ (bytes : List ℕ). Reported r before at out after (recordOnPrinted t bytes s)) e h
 
--- ---- the counts of a plan
+-- ---- the counts of a table
 
-module _ (bytes : List ℕ) (plan : Plan) (weights : List ℕ) (p : PlanFits bytes plan weights) where
-  pub few-elements : plan .elements ≤ mostElements
-  few-elements = omega (arith, p .elements, p .table .bounds .elementsMost)
+module _ (bytes : List ℕ) (counts : Counts) (weights : List ℕ) (p : Weighed bytes counts weights) where
+  pub few-elements : counts .elements ≤ mostElements
+  few-elements = omega (arith, p .held .elements, p .table .bounds .elementsMost)
 
-  pub few-leads : plan .leads + 1 ≤ mostLeads + 1
-  few-leads = omega (arith, p .leads, p .table .bounds .leadsMost)
+  pub few-leads : counts .leads + 1 ≤ mostLeads + 1
+  few-leads = omega (arith, p .held .leads, p .table .bounds .leadsMost)
 
-  pub lines-few : plan .elements * (plan .leads + 1) ≤ mostElements * (mostLeads + 1)
-  lines-few = few-lines (plan .elements) (plan .leads + 1) few-elements few-leads
+  pub lines-few : counts .elements * (counts .leads + 1) ≤ mostElements * (mostLeads + 1)
+  lines-few = few-lines (counts .elements) (counts .leads + 1) few-elements few-leads
 
   -- and its lines are those of the table
-  pub plan-lines :
+  pub counted-lines :
       (steps : ℕ) (numbers : List ℕ) {before after : List ℕ} {at end : ℕ}
-      → Put before at (answerLines steps (plan .leads + 1) numbers (plan .elements)) after end
+      → Put before at (answerLines steps (counts .leads + 1) numbers (counts .elements)) after end
       → Put before at (answerLines steps (tableIn bytes .leads + 1) numbers (tableIn bytes .elements)) after end
-  plan-lines steps numbers h = put-same (rw (p .leads, p .elements)) h
+  counted-lines steps numbers h = put-same (rw (p .held .leads, p .held .elements)) h
 
-  pub plan-under :
+  pub counted-under :
       (numbers : List ℕ)
       → FiguresUnderCeiling numbers (4 * (tableIn bytes .elements * (tableIn bytes .leads + 1)))
-      → FiguresUnderCeiling numbers (4 * (plan .elements * (plan .leads + 1)))
-  plan-under numbers h = rw (p .leads, p .elements) h
+      → FiguresUnderCeiling numbers (4 * (counts .elements * (counts .leads + 1)))
+  counted-under numbers h = rw (p .held .leads, p .held .elements) h
 
 -- ---- what a record leaves
 
@@ -229,17 +229,17 @@ module _ (t : TableValues) (bytes : List ℕ) (s : State) (bounds : TableBounds 
 
 -- and all that the next record relies on is there again, before it has a place for its text
 pub record-ready :
-    (table bytes : List ℕ) (plan : Plan) (weights : List ℕ) (s : State) (space fours out : List ℕ) {after : State} {space′ out′ : List ℕ}
-    → RecordReady table plan weights s space fours out 0
+    (table bytes : List ℕ) (counts : Counts) (weights : List ℕ) (s : State) (space fours out : List ℕ) {after : State} {space′ out′ : List ℕ}
+    → RecordReady table counts weights s space fours out 0
     → after ≡ recordOnPrinted (tableIn table) bytes s .state
     → length space′ ≡ length space
     → length out′ ≡ length out
-    → RecordReady table plan weights after space′ fours out′ 0
-record-ready table bytes plan weights s space fours out h e m n =
+    → RecordReady table counts weights after space′ fours out′ 0
+record-ready table bytes counts weights s space fours out h e m n =
     record {
-      planned = h .planned;
-      stateWhole = rw e (record-length (tableIn table) bytes s (h .planned .table .bounds) (h .stateWhole));
-      stateKept = rw e (record-fits (tableIn table) bytes s (h .planned .table .bounds) (h .stateWhole) (h .stateKept));
+      weighed = h .weighed;
+      stateWhole = rw e (record-length (tableIn table) bytes s (h .weighed .table .bounds) (h .stateWhole));
+      stateKept = rw e (record-fits (tableIn table) bytes s (h .weighed .table .bounds) (h .stateWhole) (h .stateKept));
       spaceFull = m ∙ h .spaceFull;
       digits = h .digits;
       room = omega (arith, h .room, n);

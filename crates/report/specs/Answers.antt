@@ -8,20 +8,20 @@ use Rattle.sizes.specs.Sizes.{stateNumbers, forecastSpace, textBytes}
 use Rattle.table.specs.InUse.{tableIn}
 use Rattle.state.specs.States.{State}
 use Rattle.state.specs.Rules.{stateFits}
-use Rattle.plan.specs.declared.Plan.{Plan}
-use Rattle.plan.specs.Plans.{PlanFits}
+use Rattle.table.specs.declared.Counts.{Counts}
+use Rattle.element_weights.specs.Weights.{Weighed}
 use Rattle.text.specs.Fours.{foursBelow}
 use Rattle.text.specs.Places.{Put}
 use Rattle.report.specs.declared.TextAnswer.{TextAnswer}
 use Rattle.report.specs.Records.{Printed}
 use Rattle.report.specs.Program.{recordBytes, restAfter}
 
--- an accepted table with its plan and weights, a state that rule 8 accepts, working space for a forecast, the digits of
+-- an accepted table with its counts and weights, a state that rule 8 accepts, working space for a forecast, the digits of
 -- 0 to 9,999, and room for a record's text
 pub record RecordReady
-    (table : List ℕ) (plan : Plan) (weights : List ℕ) (state : State) (space fours out : List ℕ) (at : ℕ)
+    (table : List ℕ) (counts : Counts) (weights : List ℕ) (state : State) (space fours out : List ℕ) (at : ℕ)
     : Type 0 where
-  pub planned : PlanFits table plan weights
+  pub weighed : Weighed table counts weights
   pub stateWhole : length state ≡ stateNumbers
   pub stateKept : stateFits (tableIn table) state ≡ true
   pub spaceFull : length space ≡ forecastSpace

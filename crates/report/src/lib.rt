@@ -15,10 +15,10 @@ use fields::bytes::read16;
 use lines::put_lines;
 use lines::put_refusal;
 use network::ForecastAnswer;
-use plan::Plan;
 use refusal::Refusal;
 use refusal::Verdict;
 use sizes::STATE_NUMBERS;
+use table::Counts;
 
 // The place after a record's text, and whether it ends the run.
 pub struct TextAnswer {
@@ -43,7 +43,7 @@ fn answer_refusal(refusal: Refusal, steps: u64, out: &mut [u8], at: usize) -> Te
 // its answer begins after the places of what leaves the river.
 fn answer_forecast(
     table: &[u8],
-    plan: Plan,
+    counts: Counts,
     weights: &[u64],
     state: &[u64; STATE_NUMBERS],
     space: &mut [u64],
@@ -51,13 +51,13 @@ fn answer_forecast(
     out: &mut [u8],
     at: usize,
 ) -> TextAnswer
-    requires { ⌜ RecordReady (now table) plan (now weights) (now state) (now space) (now fours) (now out) at ⌝ }
+    requires { ⌜ RecordReady (now table) counts (now weights) (now state) (now space) (now fours) (now out) at ⌝ }
     ensures { λ r. ⌜ TextAnsweredOf r (now (out .entry)) at (now (out .exit)) (forecastPrinted (tableIn (now (table .entry))) (now (state .entry)) (forecastOnAnswer (tableIn (now (table .entry))) (now (state .entry)) answerNumbers)) ⌝ }
 {
-    let answer = leads::forecast_in(table, plan, weights, state, &mut *space);
+    let answer = leads::forecast_in(table, counts, weights, state, &mut *space);
     let steps = state[1];
-    let elements = plan.elements;
-    let leads = plan.leads + 1;
+    let elements = counts.elements;
+    let leads = counts.leads + 1;
     let first = 4 * leads;
     match answer {
         ForecastAnswer::Accepted(_) => {
@@ -76,11 +76,11 @@ fn answer_forecast(
     }
 }
 
-// A record on an accepted table, its plan and weights, and a state that rule 8 accepts: what it prints is put at a place of lent space;
+// A record on an accepted table, its counts and weights, and a state that rule 8 accepts: what it prints is put at a place of lent space;
 // the other space is lent for its forecast, the digits of all groups of four for its lines.
 fn answer_record(
     table: &[u8],
-    plan: Plan,
+    counts: Counts,
     weights: &[u64],
     bytes: &[u8],
     state: &mut [u64; STATE_NUMBERS],
@@ -89,14 +89,14 @@ fn answer_record(
     out: &mut [u8],
     at: usize,
 ) -> TextAnswer
-    requires { ⌜ RecordReady (now table) plan (now weights) (now state) (now space) (now fours) (now out) at ⌝ }
+    requires { ⌜ RecordReady (now table) counts (now weights) (now state) (now space) (now fours) (now out) at ⌝ }
     ensures { λ r. ⌜ Reported r (now (out .entry)) at (now (out .exit)) (now (state .exit)) (recordOnPrinted (tableIn (now (table .entry))) (now (bytes .entry)) (now (state .entry))) ⌝ }
 {
-    let verdict = engine::step_from(table, plan, weights, bytes, &mut *state);
+    let verdict = engine::step_from(table, counts, weights, bytes, &mut *state);
     match verdict {
         Verdict::Accepted => answer_forecast(
             table,
-            plan,
+            counts,
             weights,
             &*state,
             &mut *space,
@@ -124,7 +124,7 @@ pub fn record_length(rest: &[u8]) -> usize
 // The first record of the input that is left.
 pub fn answer_next(
     table: &[u8],
-    plan: Plan,
+    counts: Counts,
     weights: &[u64],
     rest: &[u8],
     state: &mut [u64; STATE_NUMBERS],
@@ -133,13 +133,13 @@ pub fn answer_next(
     out: &mut [u8],
     at: usize,
 ) -> TextAnswer
-    requires { ⌜ RecordReady (now table) plan (now weights) (now state) (now space) (now fours) (now out) at ⌝ }
+    requires { ⌜ RecordReady (now table) counts (now weights) (now state) (now space) (now fours) (now out) at ⌝ }
     ensures { λ r. ⌜ Reported r (now (out .entry)) at (now (out .exit)) (now (state .exit)) (recordOnPrinted (tableIn (now (table .entry))) (recordBytes (now (rest .entry))) (now (state .entry))) ⌝ }
 {
     let size = record_length(rest);
     answer_record(
         table,
-        plan,
+        counts,
         weights,
         &rest[..size],
         &mut *state,

@@ -5,7 +5,7 @@ use mathlib.Core.Path.{_≡_}
 use Rattle.refusal.specs.Answers.{Answer, accepted, refused}
 use Rattle.method.specs.declared.Figures.{Figures}
 use Rattle.table.specs.Tables.{TableValues}
-use Rattle.record.specs.Records.{basinCount}
+use Rattle.table.specs.Basins.{basinCount}
 use Rattle.state.specs.States.{State}
 use Rattle.state.specs.Answers.{stateAfter}
 use Rattle.network.specs.Lent.{countWritten, lentAfter}

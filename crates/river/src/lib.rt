@@ -3,14 +3,12 @@ ghost use mathlib.Core.Path.{_≡_};
 ghost use lib.ListN.{length};
 ghost use Rattle.refusal.specs.Answers.{accepted};
 ghost use Rattle.refusal.specs.Verdicts.{verdictAnswer};
-ghost use Rattle.table.specs.Bounds.{AcceptedTable};
-ghost use Rattle.table.specs.Decoded.{CountsHeld};
 ghost use Rattle.table.specs.InUse.{tableIn};
 ghost use Rattle.table.specs.Rules.{tableRules};
 ghost use Rattle.network.specs.Lent.{countAnswer};
 ghost use Rattle.entries.specs.Entries.{startAnswer, stepAnswer, forecastAnswer};
-ghost use Rattle.river.specs.Replies.{version, refusalOf, planOf, noPlan, planReply, writtenReply, StateReplied, ForecastReplied};
-use basins::count_basins;
+ghost use Rattle.river.specs.Held.{CountsSmall, PlanAsked};
+ghost use Rattle.river.specs.Replies.{version, refusalOf, noPlan, planReply, writtenReply, StateReplied, ForecastReplied};
 use network::ForecastAnswer;
 use refusal::Verdict;
 use sizes::STATE_NUMBERS;
@@ -61,15 +59,15 @@ fn written_reply(answer: ForecastAnswer) -> Written
     }
 }
 
-// What the bytes of an accepted table with these counts ask for.
-fn plan_of(table: &[u8], counts: Counts) -> TablePlan
-    requires { ⌜ AcceptedTable (now table) × CountsHeld counts (tableIn (now table)) ⌝ }
-    ensures { λ r. ⌜ r ≡ planOf (tableIn (now (table .entry))) ⌝ }
+// What an accepted table with these counts asks for.
+fn plan_of(counts: Counts) -> TablePlan
+    requires { ⌜ CountsSmall counts ⌝ }
+    ensures { λ r. ⌜ PlanAsked counts r ⌝ }
 {
     let elements = counts.elements;
     let leads = counts.leads;
     let gauges = counts.gauges;
-    let basins = count_basins(table, elements);
+    let basins = counts.basins;
     TablePlan {
         refusal: 0,
         elements,
@@ -113,7 +111,7 @@ pub extern "C" fn river_check(table: &[u8]) -> TablePlan
     let read = table_reader::read(table);
     let verdict = read.verdict;
     match verdict {
-        Verdict::Accepted => plan_of(table, read.counts),
+        Verdict::Accepted => plan_of(read.counts),
         Verdict::Refused(refusal) => no_plan(refusal.code()),
     }
 }

@@ -1,22 +1,21 @@
 -- Laws of the move of one element.
 use Prim.Native.Nat.{ℕ, _+_, _≤_, _<_}
+use mathlib.Core.Bool.{Bool, true, false, cond, _||_, or-true, or-false, or-comm}
 use mathlib.Core.List.{[], _∷_}
-use mathlib.Core.Path.{_≡_, sym, _∙_}
-use Rattle.refusal.specs.Answers.{Answer, accepted, refused}
+use mathlib.Core.Path.{_≡_, refl, sym, ap, _∙_}
+use lib.Dec.{ltb}
+use Rattle.refusal.specs.Answers.{Answer, accepted, refused, andThen}
 use Rattle.units.specs.Units.{C}
-use Rattle.units.specs.Ceiling.{underCeiling}
-use Rattle.units.proofs.CeilingLaws.{passes, stays, none-left, same-accepted, refused-append, accepted-append}
+use Rattle.units.specs.Ceiling.{somePasses, underCeiling}
+use Rattle.units.proofs.CeilingLaws.{passes, stays, none-left}
 use Rattle.weighting.specs.declared.Estimate.{Estimate}
 use Rattle.weighting.specs.Estimates.{estimate}
 use Rattle.weighting.specs.Blend.{blended}
 use Rattle.method.specs.declared.Figures.{Figures}
-use Rattle.method.specs.Figures.{variance, figures}
+use Rattle.method.specs.Figures.{variance}
+use Rattle.method.specs.Inflow.{inflowNumbers, inflowAnswer}
 use Rattle.method.specs.Routing.{routedDischarge, oldVariancePart, inflowVariancePart, routedVariance, routed, varianceNumbers, routingNumbers, routingAnswer}
-use Rattle.routing.specs.Parts.{partMargins}
-
--- the answer of the variance's move: its parts judged, itself not yet
-abbrev pub partsAnswer : ℕ → ℕ → Estimate → Estimate → Answer Estimate
-partsAnswer H W inflow old = underCeiling (partMargins H inflow old) (routedVariance H W inflow old)
+use Rattle.routing.specs.Parts.{partMargins, partsAnswer, routedAnswer}
 
 module _ (H W : ℕ) (inflow old : Estimate) where
   pub old-part-passes : C < oldVariancePart H old .margin → partsAnswer H W inflow old ≡ refused 16
@@ -40,36 +39,46 @@ module _ (H W : ℕ) (inflow old : Estimate) where
   parts-accepted a b v old-part inflow-part both =
       rw (both, old-part .1, inflow-part .1) (sym (stays _ _ _ (old-part .0) ∙ (stays _ _ _ (inflow-part .0) ∙ none-left _)))
 
--- the answer of the whole move, once the discharge is known
-module _ (H W : ℕ) (inflow old : Figures) (q : Estimate) (same : q ≡ routedDischarge H inflow old) where
-  pub discharge-passes : C < q .value → refused 16 ≡ routingAnswer H W inflow old
-  unfolding routingAnswer routingNumbers
-  discharge-passes h = rw (← same) (sym (passes _ _ _ h))
+-- the code judges the parts before the discharge, and the variance before its margin: two numbers, four, and all in the order of rule 16
+in-order :
+    (a b p q m n : Bool)
+    → ((p || (q || false)) || (a || (b || (n || (m || false))))) ≡ (a || (b || (p || (q || (m || (n || false))))))
+in-order true b p q m n = or-true (p || (q || false))
+in-order false true p q m n = or-true (p || (q || false))
+in-order false false true q m n = refl
+in-order false false false true m n = refl
+in-order false false false false m n = rw (or-false m, or-false n) (or-comm n m)
 
-  pub discharge-margin-passes : q .value ≤ C → C < q .margin → refused 16 ≡ routingAnswer H W inflow old
-  unfolding routingAnswer routingNumbers
-  discharge-margin-passes l h = rw (← same) (sym (stays _ _ _ l ∙ passes _ _ _ h))
+module _ {A B : Type 0} (v : A) (f : A → Answer B) (x : B) where
+  then-judged :
+      (s t : Bool)
+      → f v ≡ cond t (refused 16) (accepted x)
+      → andThen (cond s (refused 16) (accepted v)) f ≡ cond (s || t) (refused 16) (accepted x)
+  then-judged true t e = refl
+  then-judged false t e = e
 
-  module _ (l : q .value ≤ C) (m : q .margin ≤ C) where
-    pub parts-refuse :
-        {k : ℕ} → refused k ≡ partsAnswer H W (variance inflow) (variance old) → refused 16 ≡ routingAnswer H W inflow old
-    unfolding routingAnswer routingNumbers varianceNumbers partMargins
-    parts-refuse e =
-        rw (← same) (sym (stays _ _ _ l ∙ (stays _ _ _ m ∙ refused-append _ _ _ _ e)))
+  judged-in-order :
+      (a b p q m n : ℕ)
+      → f v ≡ underCeiling (a ∷ b ∷ n ∷ m ∷ []) x
+      → andThen (underCeiling (p ∷ q ∷ []) v) f ≡ underCeiling (a ∷ b ∷ p ∷ q ∷ m ∷ n ∷ []) x
+  unfolding underCeiling somePasses
+  judged-in-order a b p q m n e =
+      then-judged (somePasses (p ∷ q ∷ [])) (somePasses (a ∷ b ∷ n ∷ m ∷ [])) e
+      ∙ ap (λ (some : Bool). cond some (refused 16) (accepted x)) (in-order (ltb C a) (ltb C b) (ltb C p) (ltb C q) (ltb C m) (ltb C n))
 
-    -- and the variance, its parts judged
-    module _ (v : Estimate) (e : accepted v ≡ partsAnswer H W (variance inflow) (variance old)) where
-      left-over : underCeiling (v .margin ∷ v .value ∷ []) (figures q v) ≡ routingAnswer H W inflow old
-      unfolding routingAnswer routingNumbers varianceNumbers routed partMargins
-      left-over =
-          let s = same-accepted _ (routed H W inflow old) _ e in
-          rw (s .0, ← same) (sym (stays _ _ _ l ∙ (stays _ _ _ m ∙ accepted-append _ _ _ _ e)))
+module _ (H W : ℕ) (inflow old : Figures) where
+  -- the parts of the code together are the move
+  pub move-joined :
+      routedAnswer (routedDischarge H inflow old) (partsAnswer H W (variance inflow) (variance old))
+      ≡ routingAnswer H W inflow old
+  unfolding routedAnswer partMargins inflowAnswer inflowNumbers routingAnswer routingNumbers varianceNumbers routed
+  move-joined = judged-in-order _ _ _ _ _ _ _ _ _ refl
 
-      pub variance-margin-passes : C < v .margin → refused 16 ≡ routingAnswer H W inflow old
-      variance-margin-passes h = sym (passes _ _ _ h) ∙ left-over
-
-      pub variance-passes : v .margin ≤ C → C < v .value → refused 16 ≡ routingAnswer H W inflow old
-      variance-passes n h = sym (stays _ _ _ n ∙ passes _ _ _ h) ∙ left-over
-
-      pub routing-accepted : v .margin ≤ C → v .value ≤ C → accepted (figures q v) ≡ routingAnswer H W inflow old
-      routing-accepted n h = sym (stays _ _ _ n ∙ (stays _ _ _ h ∙ none-left _)) ∙ left-over
+  -- the same, of what they answer
+  pub move-answered :
+      {q : Estimate} {v : Answer Estimate} {answer : Answer Figures}
+      → q ≡ routedDischarge H inflow old
+      → v ≡ partsAnswer H W (variance inflow) (variance old)
+      → answer ≡ routedAnswer q v
+      → answer ≡ routingAnswer H W inflow old
+  move-answered d p f = f ∙ rw (d, p) move-joined

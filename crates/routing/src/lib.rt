@@ -1,18 +1,15 @@
-// The move of one element.
+// The move of one element, in parts that the compiler puts into each caller.
 ghost use mathlib.Core.Path.{_≡_};
 ghost use Prim.Native.Nat.{_≤_};
 ghost use Rattle.units.specs.Units.{C, S};
-ghost use Rattle.units.specs.Ceiling.{underCeiling};
 ghost use Rattle.weighting.specs.Estimates.{estimate, estimateAnswer, EstimateFits, AnsweredEstimateFits};
 ghost use Rattle.weighting.specs.Blend.{blendAnswer};
-ghost use Rattle.method.specs.Figures.{figuresAnswer, FiguresFit, AnsweredFiguresFit};
-ghost use Rattle.method.specs.Routing.{routedVariance, routingAnswer};
-ghost use Rattle.routing.specs.Parts.{partMargins};
+ghost use Rattle.method.specs.Figures.{variance, figuresAnswer, FiguresFit, AnsweredFiguresFit};
+ghost use Rattle.method.specs.Routing.{routedDischarge};
+ghost use Rattle.routing.specs.Parts.{partsAnswer, routedAnswer};
 use method::Figures;
 use method::FiguresAnswer;
 use refusal::Refusal;
-use units::Discharge;
-use units::DischargeAnswer;
 use units::Variance;
 use units::VarianceAnswer;
 use weighting::Estimate;
@@ -42,14 +39,17 @@ fn variance_part(weight: u64, variance: Estimate) -> EstimateAnswer
 }
 
 // The variance after the step, by the weight of the element and its system noise; its parts are judged, itself not yet.
-fn route_variance(weight: u64, noise: u64, inflow: Estimate, old: Estimate) -> EstimateAnswer
-    requires { ⌜ (weight ≤ S) × ((noise ≤ C) × (EstimateFits inflow × EstimateFits old)) ⌝ }
-    ensures { λ r. ⌜ estimateAnswer r ≡ underCeiling (partMargins weight inflow old) (routedVariance weight noise inflow old) ⌝ }
+pub fn route_variance(weight: u64, noise: u64, inflow: Figures, old: Figures) -> EstimateAnswer
+    requires { ⌜ (weight ≤ S) × ((noise ≤ C) × (FiguresFit inflow × FiguresFit old)) ⌝ }
+    ensures { λ r. ⌜ estimateAnswer r ≡ partsAnswer weight noise (variance inflow) (variance old) ⌝ }
 {
-    let EstimateAnswer::Accepted(old_part) = variance_part(weight, old) else {
+    let EstimateAnswer::Accepted(old_part) = variance_part(weight, old.variance_estimate()) else {
         return EstimateAnswer::Refused(Refusal::AboveCeiling);
     };
-    let EstimateAnswer::Accepted(inflow_part) = variance_part(SCALE - weight, inflow) else {
+    let EstimateAnswer::Accepted(inflow_part) = variance_part(
+        SCALE - weight,
+        inflow.variance_estimate(),
+    ) else {
         return EstimateAnswer::Refused(Refusal::AboveCeiling);
     };
     let both = blend(weight, WEIGHT_MARGIN, old_part, inflow_part);
@@ -59,41 +59,25 @@ fn route_variance(weight: u64, noise: u64, inflow: Estimate, old: Estimate) -> E
     })
 }
 
-// The move of one element over a step, before a reading corrects it.
-pub fn route(weight: u64, noise: u64, inflow: Figures, old: Figures) -> FiguresAnswer
-    requires { ⌜ (weight ≤ S) × ((noise ≤ C) × (FiguresFit inflow × FiguresFit old)) ⌝ }
-    ensures { λ r. ⌜ (figuresAnswer r ≡ routingAnswer weight noise inflow old) × AnsweredFiguresFit r ⌝ }
+// The discharge after the step, not yet judged.
+pub fn route_discharge(weight: u64, inflow: Figures, old: Figures) -> Estimate
+    requires { ⌜ (weight ≤ S) × (FiguresFit inflow × FiguresFit old) ⌝ }
+    ensures { λ r. ⌜ r ≡ routedDischarge weight inflow old ⌝ }
 {
-    let q = blend(
+    blend(
         weight,
         WEIGHT_MARGIN,
         old.discharge_estimate(),
         inflow.discharge_estimate(),
-    );
-    let DischargeAnswer::Accepted(discharge) = Discharge::new(q.value) else {
-        return FiguresAnswer::Refused(Refusal::AboveCeiling);
-    };
-    let DischargeAnswer::Accepted(discharge_margin) = Discharge::new(q.margin) else {
-        return FiguresAnswer::Refused(Refusal::AboveCeiling);
-    };
-    let EstimateAnswer::Accepted(v) = route_variance(
-        weight,
-        noise,
-        inflow.variance_estimate(),
-        old.variance_estimate(),
-    ) else {
-        return FiguresAnswer::Refused(Refusal::AboveCeiling);
-    };
-    let VarianceAnswer::Accepted(variance_margin) = Variance::new(v.margin) else {
-        return FiguresAnswer::Refused(Refusal::AboveCeiling);
-    };
-    let VarianceAnswer::Accepted(variance) = Variance::new(v.value) else {
-        return FiguresAnswer::Refused(Refusal::AboveCeiling);
-    };
-    FiguresAnswer::Accepted(Figures {
-        discharge,
-        discharge_margin,
-        variance,
-        variance_margin,
-    })
+    )
+}
+
+// The element after the step, before a reading corrects it: its discharge and its variance, judged.
+pub fn routed_figures(q: Estimate, v: EstimateAnswer) -> FiguresAnswer
+    ensures { λ r. ⌜ (figuresAnswer r ≡ routedAnswer q (estimateAnswer v)) × AnsweredFiguresFit r ⌝ }
+{
+    match v {
+        EstimateAnswer::Accepted(variance) => Figures::new(q, variance),
+        EstimateAnswer::Refused(refusal) => FiguresAnswer::Refused(refusal),
+    }
 }

@@ -28,7 +28,7 @@ observedNumbers = 2 * mostGauges
 
 -- the working space of a step: four figures of each element, and of what leaves the river
 abbrev pub smallElements : ℕ
-smallElements = 8
+smallElements = 4
 
 abbrev pub smallStepSpace : ℕ
 smallStepSpace = 4 * (smallElements + 1)
@@ -37,6 +37,9 @@ abbrev pub stepSpace : ℕ
 stepSpace = 4 * (mostElements + 1)
 
 -- the working space of a forecast: the same at leads 0 to L
+abbrev pub tinyForecastSpace : ℕ
+tinyForecastSpace = 32
+
 abbrev pub smallForecastSpace : ℕ
 smallForecastSpace = 128
 

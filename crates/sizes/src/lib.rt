@@ -20,14 +20,16 @@ pub const ANSWER_NUMBERS: usize = 4 * MOST_ELEMENTS * (MOST_LEADS + 1);
 pub const OBSERVED_NUMBERS: usize = 2 * MOST_GAUGES;
 
 // The numbers of the working space of a step, for a small river and for any: four figures of each element, and of what leaves the river.
-pub const SMALL_ELEMENTS: usize = 8;
+pub const SMALL_ELEMENTS: usize = 4;
 
 pub const SMALL_STEP_SPACE: usize = 4 * (SMALL_ELEMENTS + 1);
 
 pub const STEP_SPACE: usize = 4 * (MOST_ELEMENTS + 1);
 
-// The numbers of the working space of a forecast, the same at leads 0 to L: small, medium (eight elements at all leads, or all elements
-// at one lead), and for any.
+// The numbers of the working space of a forecast, the same at leads 0 to L: for three elements at one lead, for one element at all leads
+// (or fourteen at one), for eight elements at all leads (or all elements at one), and for any.
+pub const TINY_FORECAST_SPACE: usize = 32;
+
 pub const SMALL_FORECAST_SPACE: usize = 128;
 
 pub const MEDIUM_FORECAST_SPACE: usize = 520;

@@ -79,16 +79,28 @@ fn figures_fit(f: Figures) -> bool
     let e = f.discharge_margin;
     let v = f.variance;
     let d = f.variance_margin;
-    (q.0 <= Discharge::CEILING)
-        & (e.0 <= Discharge::CEILING)
-        & (v.0 <= Variance::CEILING)
-        & (d.0 <= Variance::CEILING)
+    if Discharge::CEILING < q.0 {
+        return false;
+    }
+    if Discharge::CEILING < e.0 {
+        return false;
+    }
+    if Variance::CEILING < v.0 {
+        return false;
+    }
+    d.0 <= Variance::CEILING
 }
 
 fn rains_fit(r: Rains) -> bool
     ensures { λ x. ⌜ x ≡ rainsFit r ⌝ }
 {
-    (r.first <= 3_000) & (r.second <= 3_000) & (r.third <= 3_000)
+    if 3_000 < r.first {
+        return false;
+    }
+    if 3_000 < r.second {
+        return false;
+    }
+    r.third <= 3_000
 }
 
 // Rule 8 on the place of element i: the rains of a basin alone are read.
@@ -96,10 +108,12 @@ pub fn place_fits(state: &[u64; STATE_NUMBERS], i: usize, kind: u64) -> bool
     requires { ⌜ i < mostElements ⌝ }
     ensures { λ r. ⌜ r ≡ placeFits kind (placeOf (now (state .entry)) i) ⌝ }
 {
-    let figures = figures_of(state, i);
+    if !figures_fit(figures_of(state, i)) {
+        return false;
+    }
     match kind {
-        elements::BASIN => figures_fit(figures) & rains_fit(rains_of(state, i)),
-        elements::REACH => figures_fit(figures),
+        elements::BASIN => rains_fit(rains_of(state, i)),
+        elements::REACH => true,
         _ => false,
     }
 }

@@ -14,11 +14,12 @@ fn places_fit(table: &[u8], n: usize, state: &[u64; STATE_NUMBERS]) -> bool
     requires { ⌜ AcceptedTable (now table) × (n ≡ tableIn (now table) .elements) ⌝ }
     ensures { λ r. ⌜ r ≡ allBelow (λ i. placeFits (tableIn (now (table .entry)) .element i .kind) (placeOf (now (state .entry)) i)) (tableIn (now (table .entry)) .elements) ⌝ }
 {
-    let mut fit = true;
     for i in 0..n {
-        fit = fit & place_fits(state, i, kind_at(table, i));
+        if !place_fits(state, i, kind_at(table, i)) {
+            return false;
+        }
     }
-    fit
+    true
 }
 
 // Rule 8, by the bytes of an accepted table of n elements.
@@ -26,5 +27,11 @@ pub fn state_fits(table: &[u8], n: usize, state: &[u64; STATE_NUMBERS]) -> bool
     requires { ⌜ AcceptedTable (now table) × (n ≡ tableIn (now table) .elements) ⌝ }
     ensures { λ r. ⌜ r ≡ stateFits (tableIn (now (table .entry))) (now (state .entry)) ⌝ }
 {
-    (state[0] == n as u64) & (state[1] <= 10_000) & places_fit(table, n, state)
+    if state[0] != n as u64 {
+        return false;
+    }
+    if 10_000 < state[1] {
+        return false;
+    }
+    places_fit(table, n, state)
 }

@@ -12,6 +12,7 @@ use Rattle.sizes.specs.Sizes.{mostElements, mostGauges}
 use Rattle.refusal.specs.Refusals.{number}
 use Rattle.refusal.specs.Answers.{accepted, refused}
 use Rattle.refusal.specs.declared.Refusal.{Refusal}
+use Rattle.refusal.proofs.RuleLaws.{not-both}
 use Rattle.fields.specs.Bytes.{number32}
 use Rattle.fields.proofs.RangeLaws.{both}
 use Rattle.elements.specs.Elements.{elementAt}
@@ -22,12 +23,14 @@ use Rattle.table.specs.declared.TableAnswer.{TableAnswer}
 use Rattle.refusal.specs.declared.Verdict.the-variants.{Accepted, Refused}
 use Rattle.refusal.specs.Verdicts.{verdictAnswer}
 use Rattle.table.specs.Tables.{tableOf}
+use Rattle.table.specs.Basins.{basinCount}
 use Rattle.table.specs.Rules.{lengthFits, sizeFits, tableRules}
 use Rattle.table.specs.Decoded.{CountsHeld, TableRead}
 use Rattle.table.specs.Bounds.{AcceptedTable, CountedTable}
 use Rattle.table.specs.InUse.{inUse, tableIn}
 use Rattle.table.proofs.InUseLaws.{element-read, gauge-read, bounds-in-use}
 use Rattle.table.proofs.TableLaws.{rules-kept, table-bounds}
+use Rattle.table.proofs.BasinLaws.{basins-in-use}
 
 -- rules 1 and 4 together: the bytes are those of N elements and M gauges
 module _ (bytes : List ℕ) where
@@ -84,6 +87,7 @@ pub record TableKnown (bytes : List ℕ) (read : Counts) : Type 0 where
   pub kept : tableRules {A = Unit} bytes (accepted tt) ≡ accepted tt
   pub table : AcceptedTable bytes
   pub counts : CountsHeld read (tableIn bytes)
+  pub basins : read .basins ≡ basinCount (tableIn bytes)
 
 module _ (bytes : List ℕ) (r : TableAnswer) (h : TableRead bytes r) where
   pub table-accepted : r .verdict ≡ Accepted → TableKnown bytes (r .counts)
@@ -95,7 +99,21 @@ module _ (bytes : List ℕ) (r : TableAnswer) (h : TableRead bytes r) where
         kept = kept;
         table = accepted-table bytes kept;
         counts = record { step = held .step; leads = held .leads; elements = held .elements; gauges = held .gauges };
+        basins = h .basins kept ∙ basins-in-use bytes;
       }
 
   pub table-refused : {k : Refusal} → r .verdict ≡ Refused k → tableRules {A = Unit} bytes (accepted tt) ≡ refused (number k)
   table-refused e = sym (h .verdict) ∙ ap verdictAnswer e
+
+-- a table that is refused: nothing is said of its counts
+pub refused-read :
+    (bytes : List ℕ) (r : TableAnswer) {k : Refusal}
+    → r .verdict ≡ Refused k
+    → tableRules {A = Unit} bytes (accepted tt) ≡ refused (number k)
+    → TableRead bytes r
+refused-read bytes r e h =
+    record {
+      verdict = ap verdictAnswer e ∙ sym h;
+      counts = λ a. absurd (not-both a h);
+      basins = λ a. absurd (not-both a h);
+    }

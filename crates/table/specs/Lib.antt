@@ -1,4 +1,5 @@
 pub mod Tables
+pub mod Basins
 pub mod Rules
 pub mod Decoded
 pub mod InUse

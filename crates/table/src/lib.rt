@@ -14,12 +14,13 @@ use sizes::MOST_ELEMENTS;
 use sizes::MOST_GAUGES;
 use sizes::MOST_LEADS;
 
-// The counts of a table: T in minutes, L, N and M.
+// The counts of a table: T in minutes, L, N and M, and how many of its elements are basins.
 pub struct Counts {
     pub step: u64,
     pub leads: usize,
     pub elements: usize,
     pub gauges: usize,
+    pub basins: usize,
 }
 
 // The counts of a table, where its bytes are accepted.
@@ -66,7 +67,7 @@ pub fn size_fits(table: &[u8]) -> bool
     whole32(table, 0) == 6 + 26 * wide(table[8]) + 46 * wide(table[9])
 }
 
-// The counts that the header says.
+// The counts that the header says; the basins are not counted yet.
 pub fn counts_of(table: &[u8]) -> Counts
     requires { ⌜ 10 ≤ length (now table) ⌝ }
     ensures { λ r. ⌜ CountsHeld r (tableOf (now (table .entry))) ⌝ }
@@ -76,5 +77,6 @@ pub fn counts_of(table: &[u8]) -> Counts
         leads: wide(table[7]) as usize,
         elements: wide(table[8]) as usize,
         gauges: wide(table[9]) as usize,
+        basins: 0,
     }
 }

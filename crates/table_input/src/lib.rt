@@ -5,15 +5,15 @@ ghost use lib.ListN.{length};
 ghost use Rattle.sizes.specs.Sizes.{mostElements};
 ghost use Rattle.table_input.specs.Starts.{TableEnd, StartedOn, StartedOnInput};
 use fields::bytes::read32;
-use plan::Plan;
 use refusal::Verdict;
 use sizes::STATE_NUMBERS;
 use sizes::TABLE_BYTES;
+use table::Counts;
 
-// The verdict on a table, its plan where it is accepted, and how many bytes of the input it has.
+// The verdict on a table, its counts where it is accepted, and how many bytes of the input it has.
 pub struct TableStart {
     pub verdict: Verdict,
-    pub plan: Plan,
+    pub counts: Counts,
     pub length: usize,
 }
 
@@ -49,26 +49,18 @@ fn start_on(
     match verdict {
         Verdict::Accepted => {
             first_values::start_on(table, counts.elements, state);
-            let plan = plan::prepare(table, counts, &mut *weights);
+            element_weights::put_weights(table, counts.step, counts.elements, weights);
             TableStart {
                 verdict,
-                plan,
+                counts,
                 length: size,
             }
         }
-        Verdict::Refused(_) => {
-            let plan = Plan {
-                leads: 0,
-                elements: 0,
-                gauges: 0,
-                basins: 0,
-            };
-            TableStart {
-                verdict,
-                plan,
-                length: size,
-            }
-        }
+        Verdict::Refused(_) => TableStart {
+            verdict,
+            counts,
+            length: size,
+        },
     }
 }
 

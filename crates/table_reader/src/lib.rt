@@ -4,24 +4,25 @@ ghost use mathlib.Core.Bool.{true};
 ghost use Prim.Native.Nat.{_+_, _*_, _≤_};
 ghost use lib.ListN.{length};
 ghost use Rattle.sizes.specs.Sizes.{mostElements};
-ghost use Rattle.refusal.specs.Answers.{accepted};
-ghost use Rattle.refusal.specs.Verdicts.{verdictAnswer};
 ghost use Rattle.table.specs.Tables.{tableOf};
-ghost use Rattle.table.specs.Rules.{lengthFits, tableRules};
+ghost use Rattle.table.specs.Rules.{lengthFits};
 ghost use Rattle.table.specs.Decoded.{CountsHeld, TableRead};
+ghost use Rattle.refusal.specs.declared.Verdict.the-variants.{Refused};
 ghost use Rattle.table_reader.specs.Judged.{Judged};
 use down_rules::down_fits;
 use element_rules::element_fits;
+use elements::basin_of;
 use elements::element_at;
 use refusal::Refusal;
 use refusal::Verdict;
 use table::Counts;
 use table::TableAnswer;
 
-// What rules 5 and 6 say of the elements: whether all keep rule 5 and, where they do, whether all keep rule 6.
+// What rules 5 and 6 say of the elements: whether all keep rule 5 and, where they do, whether all keep rule 6, and how many are basins.
 struct ElementsJudged {
     fit: bool,
     later: bool,
+    basins: usize,
 }
 
 // Rules 5 and 6 on the first n elements, each element once.
@@ -30,41 +31,73 @@ fn judge_elements(table: &[u8], step: u64, n: usize) -> ElementsJudged
     ensures { λ r. ⌜ Judged (now (table .entry)) step n r ⌝ }
 {
     let mut later = true;
+    let mut basins: usize = 0;
     for i in 0..n {
-        if !element_fits(step, element_at(table, i)) {
-            return ElementsJudged { fit: false, later };
+        let element = element_at(table, i);
+        if !element_fits(step, element) {
+            return ElementsJudged {
+                fit: false,
+                later,
+                basins,
+            };
         }
-        later = later & down_fits(table, n, i);
+        if !down_fits(table, n, i) {
+            later = false;
+        }
+        basins += basin_of(element.kind);
     }
-    ElementsJudged { fit: true, later }
+    ElementsJudged {
+        fit: true,
+        later,
+        basins,
+    }
 }
 
-// Rules 2 to 7 in checking order, where rule 1 is kept.
-fn judge(table: &[u8], counts: Counts) -> Verdict
+// A refused table, whose counts nobody reads.
+fn refused(counts: Counts, refusal: Refusal) -> TableAnswer
+    ensures { λ r. ⌜ r .verdict ≡ Refused refusal ⌝ }
+{
+    TableAnswer {
+        verdict: Verdict::Refused(refusal),
+        counts,
+    }
+}
+
+// Rules 2 to 7 in checking order, where rule 1 is kept; the counts of the header, with the basins.
+fn judge(table: &[u8], counts: Counts) -> TableAnswer
     requires { ⌜ (lengthFits (now table) ≡ true) × CountsHeld counts (tableOf (now table)) ⌝ }
-    ensures { λ r. ⌜ verdictAnswer r ≡ tableRules (now (table .entry)) (accepted tt) ⌝ }
+    ensures { λ r. ⌜ TableRead (now (table .entry)) r ⌝ }
 {
     if !table::version_fits(table) {
-        return Verdict::Refused(Refusal::TableVersion);
+        return refused(counts, Refusal::TableVersion);
     }
     if !table::counts_fit(table) {
-        return Verdict::Refused(Refusal::TableCounts);
+        return refused(counts, Refusal::TableCounts);
     }
     if !table::size_fits(table) {
-        return Verdict::Refused(Refusal::TableSize);
+        return refused(counts, Refusal::TableSize);
     }
     let n = counts.elements;
     let elements = judge_elements(table, counts.step, n);
     if !elements.fit {
-        return Verdict::Refused(Refusal::ElementField);
+        return refused(counts, Refusal::ElementField);
     }
     if !elements.later {
-        return Verdict::Refused(Refusal::ElementDown);
+        return refused(counts, Refusal::ElementDown);
     }
     if !gauge_rules::gauges_fit(table, n, counts.gauges) {
-        return Verdict::Refused(Refusal::GaugeField);
+        return refused(counts, Refusal::GaugeField);
     }
-    Verdict::Accepted
+    TableAnswer {
+        verdict: Verdict::Accepted,
+        counts: Counts {
+            step: counts.step,
+            leads: counts.leads,
+            elements: n,
+            gauges: counts.gauges,
+            basins: elements.basins,
+        },
+    }
 }
 
 // The counts of a table, and the verdict of rules 1 to 7.
@@ -72,17 +105,14 @@ pub fn read(table: &[u8]) -> TableAnswer
     ensures { λ r. ⌜ TableRead (now (table .entry)) r ⌝ }
 {
     if !table::length_fits(table) {
-        return TableAnswer {
-            verdict: Verdict::Refused(Refusal::TableLength),
-            counts: Counts {
-                step: 0,
-                leads: 0,
-                elements: 0,
-                gauges: 0,
-            },
+        let none = Counts {
+            step: 0,
+            leads: 0,
+            elements: 0,
+            gauges: 0,
+            basins: 0,
         };
+        return refused(none, Refusal::TableLength);
     }
-    let counts = table::counts_of(table);
-    let verdict = judge(table, counts);
-    TableAnswer { verdict, counts }
+    judge(table, table::counts_of(table))
 }

@@ -41,7 +41,7 @@ serve-requires c κs =
     let started = o .started-on-input .ensures in
     let full = length-replicate {A = ℕ} stateNumbers 0 in (
       record {
-        planned = started .fits accepted;
+        weighed = started .fits accepted;
         stateWhole = started-input-length _ _ _ _ _ full started accepted;
         stateKept = started-input-fits _ _ _ _ _ full started accepted;
         spaceFull = s .pre .0;

@@ -15,14 +15,14 @@ use Rattle.cabinet.proofs.serve.Statement.{statement}
 use Rattle.cabinet.proofs.serve.Tie as tie
 
 abbrev Inv-loop : tie.InvT-loop
-Inv-loop table plan weights state₀ input₀ space₀ fours out₀ held₀ count₀ state input space out held count =
+Inv-loop table counts weights state₀ input₀ space₀ fours out₀ held₀ count₀ state input space out held count =
     (count ≤ 100000)
     × (BuffersFit held (length input)
     × ((length input ≡ length input₀)
-    × ((length space ≡ length space₀) × ((length out ≡ length out₀) × RecordReady table plan weights state space fours out 0))))
+    × ((length space ≡ length space₀) × ((length out ≡ length out₀) × RecordReady table counts weights state space fours out 0))))
 
 abbrev μ-loop : tie.MeasureT-loop
-μ-loop table plan weights state₀ input₀ space₀ fours out₀ held₀ count₀ state input space out held count = 100000 - count
+μ-loop table counts weights state₀ input₀ space₀ fours out₀ held₀ count₀ state input space out held count = 100000 - count
 
 abbrev start : tie.At-loop Inv-loop μ-loop → tie.Start Inv-loop μ-loop
 start c = c .before .before .before .before .before .before .before .before
@@ -94,7 +94,7 @@ answer-next-requires c κs =
     let k = inv .1 .1 in
     let at = r .ready .ensures .room (w .before .if1 .left) in
     record {
-      planned = k .planned;
+      weighed = k .weighed;
       stateWhole = k .stateWhole;
       stateKept = k .stateKept;
       spaceFull = k .spaceFull;

@@ -1,6 +1,6 @@
 -- `correct_by` meets its contract.
 use borrow.Author.Needs.{needs}
-use mathlib.Core.Path.{_≡_, sym, subst}
+use mathlib.Core.Path.{sym, subst}
 use Rattle.units.proofs.CeilingLaws.{none-left}
 use Rattle.method.specs.Figures.{AnsweredFiguresFit}
 use Rattle.method.specs.Correction.{correctionAnswer}

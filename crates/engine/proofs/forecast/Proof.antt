@@ -15,7 +15,7 @@ forecast-counted-requires : tie.Need-forecast-counted-requires
 forecast-counted-requires c κs =
     let e = c .before in
     let k = table-accepted _ _ (e .before .before .read .ensures) (e .enum-told .given .1) in
-    record { table = k .table; held = k .counts }
+    record { table = k .table; held = k .counts; basins = k .basins }
 
 enum-known-verdict : tie.Need-enum-known-verdict
 enum-known-verdict c = search needs

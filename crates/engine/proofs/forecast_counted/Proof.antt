@@ -5,7 +5,7 @@ use mathlib.Core.Path.{_≡_, sym, _∙_}
 use borrow.Author.Tests.{not-true, not-false}
 use Rattle.table.specs.InUse.{tableIn}
 use Rattle.state.specs.Rules.{stateFits}
-use Rattle.engine.proofs.EntryLaws.{lent-refused, forecast-state-refused}
+use Rattle.engine.proofs.EntryLaws.{unweighed, lent-refused, forecast-state-refused, lent-as, forecast-state-kept}
 use Rattle.engine.proofs.forecast_counted.Statement.{statement}
 use Rattle.engine.proofs.forecast_counted.Tie as tie
 
@@ -21,26 +21,21 @@ state-fits-requires c κs = search needs
 returns : tie.Need-returns
 returns c = lent-refused _ _ _ (forecast-state-refused _ _ _ (sym (c .before .state-fits .ensures) ∙ not-true _ (c .if1 .taken)))
 
-forecast-small-requires : tie.Need-forecast-small-requires
-forecast-small-requires c κs =
-    let t = c .before in
-    let e = t .before .before in
-    (start (e .before) .pre, (fits e, t .if2 .taken))
+slice-aggregate-forecast-on : tie.Need-slice-aggregate-forecast-on
+slice-aggregate-forecast-on c = search needs
 
-forecast-large-requires : tie.Need-forecast-large-requires
-forecast-large-requires c κs = let e = c .before .before .before in (start (e .before) .pre, fits e)
+forecast-on-requires : tie.Need-forecast-on-requires
+forecast-on-requires c κs =
+    let e = c .before .before in
+    (unweighed (start (e .before) .pre), fits e)
 
 same-length : tie.Need-same-length
 same-length c = search needs
 
 returns-2 : tie.Need-returns-2
-returns-2 c = search needs
-
-same-length-2 : tie.Need-same-length-2
-same-length-2 c = search needs
-
-returns-3 : tie.Need-returns-3
-returns-3 c = search needs
+returns-2 c =
+    let f = c .before .before in
+    lent-as (forecast-state-kept _ _ _ (fits (f .before .before .before))) (f .forecast-on .ensures)
 
 pub forecast-counted-spec : {M : Type 1} → statement M
 forecast-counted-spec =
@@ -48,9 +43,7 @@ forecast-counted-spec =
     (tie.spec
     state-fits-requires
     returns
-    forecast-small-requires
-    forecast-large-requires
+    slice-aggregate-forecast-on
+    forecast-on-requires
     same-length
-    returns-2
-    same-length-2
-    returns-3)
+    returns-2)

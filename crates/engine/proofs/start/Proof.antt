@@ -24,7 +24,7 @@ returns : tie.Need-returns
 returns c =
     let e = c .before .before in
     let k = table-accepted _ _ (e .before .before .before .read .ensures) (e .enum-told .given .1) in
-    start-accepted _ _ _ _ (k .kept) (e .enum-told .given .1) (c .start-on .ensures)
+    start-accepted _ _ _ (k .kept) (c .start-on .ensures)
 
 returns-2 : tie.Need-returns-2
 unfolding startAnswer

@@ -17,7 +17,7 @@ step-counted-requires : tie.Need-step-counted-requires
 step-counted-requires c κs =
     let e = c .before in
     let k = table-accepted _ _ (e .before .before .read .ensures) (e .enum-told .given .1) in
-    record { table = k .table; held = k .counts }
+    record { table = k .table; held = k .counts; basins = k .basins }
 
 enum-told-2 : tie.Need-enum-told-2
 enum-told-2 c = search needs

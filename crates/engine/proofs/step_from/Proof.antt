@@ -36,7 +36,15 @@ step-on-requires c κs =
     let r = known .before .before in
     let p = start (r .before .before .before) .pre in
     let kept = record-kept _ _ (r .read .ensures) (known .enum-told .given .1) in
-    record { plan = p .0; kept = kept; held = r .read .ensures .held kept; state = state-bounds _ _ (p .1) }
+    let fits = p .0 in
+    record {
+      counted = record { table = fits .table; elements = fits .held .elements; gauges = fits .held .gauges };
+      step = fits .held .step;
+      weights = fits .weights;
+      kept = kept;
+      held = r .read .ensures .held kept;
+      state = state-bounds _ _ (p .1);
+    }
 
 enum-told-2 : tie.Need-enum-told-2
 enum-told-2 c = search needs

@@ -1,5 +1,5 @@
 -- `work_element` meets its contract.
-use Prim.Native.Nat.{_+_, _*_, _≤_, _<_, _-_}
+use Prim.Native.Nat.{_+_, _*_, _≤_, _-_}
 use mathlib.Core.Path.{_≡_, refl, sym, subst, _∙_}
 use borrow.Author.Needs.{needs}
 use native.Mathlib.Omega.{arith}
@@ -49,16 +49,18 @@ work-lead-requires c κs =
     let inv = l .before .loop .inv .1 in
     let h = inv .1 .1 in
     let less = l .loop-test .taken in
-    let k = l .before .loop .k in
-    record {
-      inRange = p .inRange;
-      number = omega (arith, less, p .short, p .inRange .firstLead);
-      here = omega (arith, less, hereRoom l);
-      below = omega (arith, less, belowRoom l);
-      apart = places-apart _ _ _ _ _ k _ _ _ h (inv .1 .0) less (p .apart);
-      old = subst FiguresFit (sym (inv .1 .0)) (h .fits k (omega arith));
-      small = below-small _ _ _ _ _ k _ _ _ h (inv .1 .0) less (p .apart) (p .small k less);
-    }
+    let k = l .before .loop .k in (
+      record {
+        inRange = p .inRange;
+        number = omega (arith, less, p .short, p .inRange .firstLead);
+        here = omega (arith, less, hereRoom l);
+        below = omega (arith, less, belowRoom l);
+        apart = places-apart _ _ _ _ _ k _ _ _ h (inv .1 .0) less (p .apart);
+        old = subst FiguresFit (sym (inv .1 .0)) (h .fits k (omega arith));
+        small = below-small _ _ _ _ _ k _ _ _ h (inv .1 .0) less (p .apart) (p .small k less);
+      },
+      p .nothing,
+    )
 
 enum-known-new : tie.Need-enum-known-new Inv-loop μ-loop
 enum-known-new c = search needs

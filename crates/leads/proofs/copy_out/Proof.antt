@@ -1,16 +1,34 @@
 -- `copy_out` meets its contract.
 use borrow.Author.Needs.{needs}
-use Prim.Native.Nat.{_≤_}
+use Prim.Native.Nat.{ℕ, _≤_}
+use mathlib.Core.List.{List}
+use mathlib.Core.Path.{_≡_}
 use native.Mathlib.Omega.{arith}
 use lib.ListN.{length}
+use Rattle.table.specs.Tables.{TableValues}
 use Rattle.table.specs.InUse.{tableIn}
-use Rattle.leads.specs.Held.{spaceSize}
-use Rattle.leads.proofs.AnswerLaws.{answer-size, answer-start, written-there, written-fits, lent}
+use Rattle.network_leads.specs.Worked.{spaceSize}
+use Rattle.leads.specs.Held.{answerSize}
+use Rattle.leads.proofs.AnswerLaws.{answer-size, answer-start, part-room, not-copied, copied}
 use Rattle.leads.proofs.copy_out.Statement.{statement}
 use Rattle.leads.proofs.copy_out.Tie as tie
 
 abbrev start : tie.After-work-leads → tie.Start
-start c = c .before .before .before .before .before .before .before .before
+start k = k .before .before .before .before .before .before .before
+
+abbrev river : tie.After-work-leads → TableValues
+river k = tableIn (start k .args .table .now)
+
+-- the space that was worked in, and the numbers of the answer
+abbrev worked : tie.After-work-leads → List ℕ
+worked k = k .work-leads .last .1 .1 .1 .1 .1 .1 .0
+
+module _ (k : tie.After-work-leads) where
+  room : spaceSize (river k) ≤ length (worked k)
+  room = omega (arith, k .work-leads .kept, start k .pre .0 .space)
+
+  size : k .before .before .answer-numbers .result ≡ answerSize (river k)
+  size = answer-size (start k .pre .0 .given) (k .before .before .answer-numbers .ensures .0)
 
 answer-numbers-requires : tie.Need-answer-numbers-requires
 answer-numbers-requires c κs = search needs
@@ -24,8 +42,19 @@ mul-from c = search needs
 work-leads-requires : tie.Need-work-leads-requires
 work-leads-requires c κs = search needs
 
-written-by-requires : tie.Need-written-by-requires
-written-by-requires c κs = search needs
+enum-told : tie.Need-enum-told
+enum-told c = search needs
+
+enum-told-2 : tie.Need-enum-told-2
+enum-told-2 c = search needs
+
+same-length : tie.Need-same-length
+same-length c = search needs
+
+returns : tie.Need-returns
+returns c =
+    let k = c .before .before .before .before in
+    not-copied _ _ _ (start k .pre .0 .answer) (k .work-leads .ensures) (c .enum-told2 .given .1)
 
 mul-copy-numbers : tie.Need-mul-copy-numbers
 mul-copy-numbers c = search needs
@@ -41,32 +70,24 @@ part-copy-numbers-end c = search needs
 
 copy-numbers-requires : tie.Need-copy-numbers-requires
 copy-numbers-requires c κs =
-    let w = c .before .before .before in
-    let k = w .before .before .before in
-    let p = start k .pre in
-    let room : spaceSize (tableIn (start k .args .table .now)) ≤ length (k .work-leads .last .1 .1 .1 .1 .0) = omega (arith, k .work-leads .kept, p .1 .0 .room) in
-    let size = answer-size _ _ _ (p .0 .fits) (k .before .before .before .answer-numbers .ensures .0) in
-    let out = start k .args .out .now in
-    (written-there _ _ _ out room (p .1 .1) _ (k .work-leads .ensures) _ _ _ size (w .written-by .ensures) (answer-start _ _ _ (p .0 .fits)), written-fits _ _ _ out room (p .1 .1) _ (k .work-leads .ensures) _ _ _ size (w .written-by .ensures) (answer-start _ _ _ (p .0 .fits)))
-
-counted-requires : tie.Need-counted-requires
-counted-requires c κs = search needs
-
-same-length : tie.Need-same-length
-same-length c = search needs
+    let k = c .before .before .before .before .before .before .before in
+    let p = start k .pre .0 in
+    (part-room (river k) (worked k) (room k) (answer-start (p .given)) (size k), omega (arith, size k, p .answer))
 
 same-length-2 : tie.Need-same-length-2
 same-length-2 c = search needs
 
-returns : tie.Need-returns
-returns c =
-    let n = c .before .before .before in
-    let w = n .before .before .before .before in
-    let k = w .before .before .before in
-    let p = start k .pre in
-    let room : spaceSize (tableIn (start k .args .table .now)) ≤ length (k .work-leads .last .1 .1 .1 .1 .0) = omega (arith, k .work-leads .kept, p .1 .0 .room) in
-    let size = answer-size _ _ _ (p .0 .fits) (k .before .before .before .answer-numbers .ensures .0) in
-    lent _ _ _ _ room (p .1 .1) _ (k .work-leads .ensures) _ _ _ size (w .written-by .ensures) (answer-start _ _ _ (p .0 .fits)) _ _ (n .copy-numbers .ensures) (c .counted .ensures)
+same-length-3 : tie.Need-same-length-3
+same-length-3 c = search needs
+
+returns-2 : tie.Need-returns-2
+returns-2 c =
+    let n = c .before .before in
+    let e = n .before .before .before .before in
+    let k = e .before .before .before .before in
+    let p = start k .pre .0 in
+    copied _ _ _ (p .answer) (k .work-leads .ensures) (room k) (answer-start (p .given)) (size k) (n .copy-numbers .ensures)
+    (e .enum-told .given .1)
 
 pub copy-out-spec : {M : Type 1} → statement M
 copy-out-spec =
@@ -76,13 +97,15 @@ copy-out-spec =
     add-from
     mul-from
     work-leads-requires
-    written-by-requires
+    enum-told
+    enum-told-2
+    same-length
+    returns
     mul-copy-numbers
     sub-copy-numbers
     part-copy-numbers-start
     part-copy-numbers-end
     copy-numbers-requires
-    counted-requires
-    same-length
     same-length-2
-    returns)
+    same-length-3
+    returns-2)

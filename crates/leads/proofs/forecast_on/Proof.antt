@@ -1,27 +1,40 @@
 -- `forecast_on` meets its contract.
 use borrow.Author.Needs.{needs}
-use Prim.Native.Nat.{_≤_}
+use Prim.Native.Nat.{ℕ, _≤_}
 use mathlib.Core.Path.{_≡_}
 use native.Mathlib.Omega.{arith}
 use lib.ListN.{length}
 use Rattle.table.specs.InUse.{tableIn}
-use Rattle.leads.specs.Held.{answerSize, spaceSize}
-use Rattle.leads.proofs.AnswerLaws.{given, answer-size, space-size, space-refused}
+use Rattle.leads.specs.Held.{answerSize, CopyReady}
+use Rattle.leads.proofs.AnswerLaws.{given, answer-size, space-size, space-refused, lent-by}
 use Rattle.leads.proofs.forecast_on.Statement.{statement}
 use Rattle.leads.proofs.forecast_on.Tie as tie
 
 abbrev start : tie.After-answer-numbers → tie.Start
-start c = c .before .before .before .before
+start a = a .before .before .before .before
 
--- the numbers that the river needs, of the answer and of the space
-needed-is : (c : tie.After-answer-numbers) → c .answer-numbers .result ≡ answerSize (tableIn (start c .args .table .now))
-needed-is c = answer-size _ _ _ (start c .pre .0) (c .answer-numbers .ensures .0)
+-- the numbers of the answer
+needed-is : (a : tie.After-answer-numbers) → a .answer-numbers .result ≡ answerSize (tableIn (start a .args .table .now))
+needed-is a = let p = start a .pre in answer-size (given (p .0) (p .1)) (a .answer-numbers .ensures .0)
 
-room-is : (c : tie.After-space-numbers) → c .space-numbers .result ≡ spaceSize (tableIn (start (c .before .before) .args .table .now))
-room-is c = space-size _ _ _ (start (c .before .before) .pre .0) (c .space-numbers .ensures .0)
+abbrev asked : tie.After-space-numbers → tie.After-answer-numbers
+asked n = n .before .before
 
-enough : (c : tie.Else1) → answerSize (tableIn (start (c .before) .args .table .now)) ≤ length (start (c .before) .args .out .now)
-enough c = omega (arith, c .if1 .left, needed-is (c .before))
+-- a space that has room
+ready :
+    (n : tie.After-space-numbers) (room : ℕ)
+    → n .space-numbers .result ≤ room
+    → CopyReady (start (asked n) .args .table .now) (start (asked n) .args .counts .elements) (start (asked n) .args .counts .leads)
+    (start (asked n) .args .counts .step) (start (asked n) .args .weights .now) (start (asked n) .args .state .now) room
+    (length (start (asked n) .args .out .now))
+ready n room l =
+    let p = start (asked n) .pre in
+    let g = given (p .0) (p .1) in
+    record {
+      given = g;
+      space = omega (arith, l, space-size g (n .space-numbers .ensures .0));
+      answer = omega (arith, n .before .if1 .left, needed-is (asked n));
+    }
 
 answer-numbers-requires : tie.Need-answer-numbers-requires
 answer-numbers-requires c κs = search needs
@@ -32,43 +45,61 @@ returns c = space-refused _ _ _ (omega (arith, c .if1 .taken, needed-is (c .befo
 space-numbers-requires : tie.Need-space-numbers-requires
 space-numbers-requires c κs = search needs
 
-in-small-requires : tie.Need-in-small-requires
-in-small-requires c κs =
-    let t = c .before in
-    let n = t .before in
-    let p = start (n .before .before) .pre in
-    (given _ _ _ _ (p .0) (p .1), (omega (arith, t .if2 .taken, room-is n), enough (n .before)))
+in-tiny-requires : tie.Need-in-tiny-requires
+in-tiny-requires c κs = let t = c .before in ready (t .before) _ (t .if2 .taken)
+
+counted-by-requires : tie.Need-counted-by-requires
+counted-by-requires c κs = search needs
 
 same-length : tie.Need-same-length
 same-length c = search needs
 
 returns-2 : tie.Need-returns-2
-returns-2 c = search needs
+returns-2 c =
+    let i = c .before .before .before in
+    lent-by (i .in-tiny .ensures) (needed-is (asked (i .before .before .before))) (c .counted-by .ensures)
 
-in-medium-requires : tie.Need-in-medium-requires
-in-medium-requires c κs =
-    let t = c .before in
-    let n = t .before .before in
-    let p = start (n .before .before) .pre in
-    (given _ _ _ _ (p .0) (p .1), (omega (arith, t .if3 .taken, room-is n), enough (n .before)))
+in-small-requires : tie.Need-in-small-requires
+in-small-requires c κs = let t = c .before in ready (t .before .before) _ (t .if3 .taken)
+
+counted-by-requires-2 : tie.Need-counted-by-requires-2
+counted-by-requires-2 c κs = search needs
 
 same-length-2 : tie.Need-same-length-2
 same-length-2 c = search needs
 
 returns-3 : tie.Need-returns-3
-returns-3 c = search needs
+returns-3 c =
+    let i = c .before .before .before in
+    lent-by (i .in-small .ensures) (needed-is (asked (i .before .before .before .before))) (c .counted-by2 .ensures)
 
-in-large-requires : tie.Need-in-large-requires
-in-large-requires c κs =
-    let n = c .before .before .before in
-    let p = start (n .before .before) .pre in
-    (given _ _ _ _ (p .0) (p .1), (omega (arith, n .space-numbers .ensures .1, room-is n), enough (n .before)))
+in-medium-requires : tie.Need-in-medium-requires
+in-medium-requires c κs = let t = c .before in ready (t .before .before .before) _ (t .if4 .taken)
+
+counted-by-requires-3 : tie.Need-counted-by-requires-3
+counted-by-requires-3 c κs = search needs
 
 same-length-3 : tie.Need-same-length-3
 same-length-3 c = search needs
 
 returns-4 : tie.Need-returns-4
-returns-4 c = search needs
+returns-4 c =
+    let i = c .before .before .before in
+    lent-by (i .in-medium .ensures) (needed-is (asked (i .before .before .before .before .before))) (c .counted-by3 .ensures)
+
+in-large-requires : tie.Need-in-large-requires
+in-large-requires c κs = let n = c .before .before .before .before in ready n _ (n .space-numbers .ensures .1)
+
+counted-by-requires-4 : tie.Need-counted-by-requires-4
+counted-by-requires-4 c κs = search needs
+
+same-length-4 : tie.Need-same-length-4
+same-length-4 c = search needs
+
+returns-5 : tie.Need-returns-5
+returns-5 c =
+    let i = c .before .before .before in
+    lent-by (i .in-large .ensures) (needed-is (asked (i .before .before .before .before .before))) (c .counted-by4 .ensures)
 
 pub forecast-on-spec : {M : Type 1} → statement M
 forecast-on-spec =
@@ -77,12 +108,19 @@ forecast-on-spec =
     answer-numbers-requires
     returns
     space-numbers-requires
-    in-small-requires
+    in-tiny-requires
+    counted-by-requires
     same-length
     returns-2
-    in-medium-requires
+    in-small-requires
+    counted-by-requires-2
     same-length-2
     returns-3
-    in-large-requires
+    in-medium-requires
+    counted-by-requires-3
     same-length-3
-    returns-4)
+    returns-4
+    in-large-requires
+    counted-by-requires-4
+    same-length-4
+    returns-5)

@@ -1,6 +1,6 @@
 -- `in_small` meets its contract.
 use borrow.Author.Needs.{needs}
-use Rattle.leads.proofs.AnswerLaws.{zeros-cleared}
+use Rattle.leads.proofs.AnswerLaws.{zeros-ready}
 use Rattle.leads.proofs.in_small.Statement.{statement}
 use Rattle.leads.proofs.in_small.Tie as tie
 
@@ -8,9 +8,7 @@ slice-aggregate-copy-out : tie.Need-slice-aggregate-copy-out
 slice-aggregate-copy-out c = search needs
 
 copy-out-requires : tie.Need-copy-out-requires
-copy-out-requires c κs =
-    let p = c .before .before .before .before .before .pre in
-    (p .0, (zeros-cleared _ _ (p .1 .0), p .1 .1))
+copy-out-requires c κs = zeros-ready (c .before .before .before .before .before .pre)
 
 same-length : tie.Need-same-length
 same-length c = search needs

@@ -4,7 +4,7 @@ use Prim.Native.Nat.{_+_, _*_, _≤_}
 use mathlib.Core.Path.{refl}
 use native.Mathlib.Omega.{arith}
 use Rattle.sizes.specs.Sizes.{forecastSpace}
-use Rattle.leads.proofs.AnswerLaws.{space-most}
+use Rattle.network_leads.proofs.WorkLaws.{space-most}
 use Rattle.leads.proofs.space_numbers.Statement.{statement}
 use Rattle.leads.proofs.space_numbers.Tie as tie
 

@@ -18,10 +18,10 @@ write-state-requires c κs =
     let w = known .before .before .before .before in
     let p = w .before .before .before .before .before .before .before .pre in
     record {
-      fits = p .0 .plan .table;
-      elements = p .0 .plan .elements;
+      fits = p .0 .counted .table;
+      elements = p .0 .counted .elements;
       kept = p .0 .kept;
-      room = omega (arith, p .1 .room, p .0 .plan .elements, w .work-step .kept .1 .1 .1 .1 .1 .1 .0);
+      room = omega (arith, p .1 .room, w .work-step .kept .1 .1 .1 .1 .1 .1 .1 .1 .0);
       state = p .0 .state;
       held = w .work-step .ensures .held (known .enum-told .given .1);
     }

@@ -10,7 +10,7 @@ slice-aggregate-step-in : tie.Need-slice-aggregate-step-in
 slice-aggregate-step-in c = search needs
 
 step-in-requires : tie.Need-step-in-requires
-step-in-requires c κs = let p = c .before .before .before .before .before .pre in (p .0, cleared _ smallStepSpace (omega (arith, p .0 .plan .elements, p .1)))
+step-in-requires c κs = let p = c .before .before .before .before .before .pre in (p .0, cleared _ smallStepSpace (omega (arith, p .1)))
 
 returns : tie.Need-returns
 returns c = search needs

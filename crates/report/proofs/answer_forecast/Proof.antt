@@ -5,7 +5,7 @@ use Prim.Native.Nat.{_+_, _*_}
 use native.Mathlib.Omega.{arith}
 use Rattle.text.proofs.PlacesLaws.{put-same}
 use Rattle.report.proofs.FiguresLaws.{forecast-shown, forecast-not-shown, shown-under, rest-of, part-room}
-use Rattle.report.proofs.ReportLaws.{text-as, refusal-printed, lines-printed, forecast-refused, few-elements, few-leads, lines-few, plan-lines, plan-under}
+use Rattle.report.proofs.ReportLaws.{text-as, refusal-printed, lines-printed, forecast-refused, few-elements, few-leads, lines-few, counted-lines, counted-under}
 use Rattle.report.proofs.answer_forecast.Statement.{statement}
 use Rattle.report.proofs.answer_forecast.Tie as tie
 use Rattle.report.proofs.answer_forecast.Reads as reads
@@ -47,16 +47,16 @@ put-lines-requires c κs =
     let f = m .before .before .before .before .before .before in
     let s = f .before .before .before .before .before .before .before in
     let p = s .pre in
-    let few = lines-few _ _ _ (p .planned) in
-    let leads = few-leads _ _ _ (p .planned) in
-    let shown = forecast-shown _ _ (p .stateKept) _ _ (f .forecast-in .ensures) _ (m .enum-told .given .1) (rest-of _ _ _ (ap (λ k. 4 * (k + 1)) (p .planned .leads))) in
+    let few = lines-few _ _ _ (p .weighed) in
+    let leads = few-leads _ _ _ (p .weighed) in
+    let shown = forecast-shown _ _ (p .stateKept) _ _ (f .forecast-in .ensures) _ (m .enum-told .given .1) (rest-of _ _ _ (ap (λ k. 4 * (k + 1)) (p .weighed .held .leads))) in
     record {
       room = omega (arith, few, p .room);
       there = part-room (f .forecast-in .last .1 .1 .1 .1 .0) _ _ leads few (f .forecast-in .kept .1 .1 .1 .1 .0 ∙ p .spaceFull);
-      elementsFew = few-elements _ _ _ (p .planned);
+      elementsFew = few-elements _ _ _ (p .weighed);
       leadsFew = omega (arith, leads);
       digits = p .digits;
-      under = plan-under _ _ _ (p .planned) _ (shown-under _ _ _ shown);
+      under = counted-under _ _ _ (p .weighed) _ (shown-under _ _ _ shown);
     }
 
 enum-known-answer : tie.Need-enum-known-answer
@@ -78,9 +78,9 @@ returns c =
     let f = m .before .before .before .before .before .before in
     let s = f .before .before .before .before .before .before .before in
     let p = s .pre in
-    let few = lines-few _ _ _ (p .planned) in
-    let shown = forecast-shown _ _ (p .stateKept) _ _ (f .forecast-in .ensures) _ (m .enum-told .given .1) (rest-of _ _ _ (ap (λ k. 4 * (k + 1)) (p .planned .leads))) in
-    lines-printed _ _ _ _ shown (plan-lines _ _ _ (p .planned) _ _ (l .put-lines .ensures .0)) (omega (arith, few, l .put-lines .ensures .1))
+    let few = lines-few _ _ _ (p .weighed) in
+    let shown = forecast-shown _ _ (p .stateKept) _ _ (f .forecast-in .ensures) _ (m .enum-told .given .1) (rest-of _ _ _ (ap (λ k. 4 * (k + 1)) (p .weighed .held .leads))) in
+    lines-printed _ _ _ _ shown (counted-lines _ _ _ (p .weighed) _ _ (l .put-lines .ensures .0)) (omega (arith, few, l .put-lines .ensures .1))
 
 same-length-3 : tie.Need-same-length-3
 same-length-3 c = search needs

@@ -19,9 +19,9 @@ answer-forecast-requires c κs =
     let p = s .pre in
     let v = w .step-from .ensures in
     record {
-      planned = p .planned;
-      stateWhole = step-length _ _ _ _ _ v (p .planned .table .bounds) (p .stateWhole);
-      stateKept = answered-fits _ _ _ _ (p .planned .table .bounds) (p .stateWhole) _ v (m .enum-told .given .1);
+      weighed = p .weighed;
+      stateWhole = step-length _ _ _ _ _ v (p .weighed .table .bounds) (p .stateWhole);
+      stateKept = answered-fits _ _ _ _ (p .weighed .table .bounds) (p .stateWhole) _ v (m .enum-told .given .1);
       spaceFull = p .spaceFull;
       digits = p .digits;
       room = p .room;

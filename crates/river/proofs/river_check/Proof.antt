@@ -1,5 +1,7 @@
 -- `river_check` meets its contract.
 use borrow.Author.Needs.{needs}
+use native.Mathlib.Nat.{le-trans}
+use Rattle.table.proofs.BasinLaws.{basins-all}
 use Rattle.table.proofs.HeldLaws.{table-accepted, table-refused}
 use Rattle.river.proofs.ReplyLaws.{plan-replied, plan-refused}
 use Rattle.river.proofs.river_check.Statement.{statement}
@@ -12,7 +14,15 @@ enum-told : tie.Need-enum-told
 enum-told c = search needs
 
 plan-of-requires : tie.Need-plan-of-requires
-plan-of-requires c κs = let k = table-accepted _ _ (c .before .before .read .ensures) (c .enum-told .given .1) in (k .table, k .counts)
+plan-of-requires c κs =
+    let k = table-accepted _ _ (c .before .before .read .ensures) (c .enum-told .given .1) in
+    let b = k .table .bounds in
+    record {
+      elements = rw (k .counts .elements) (b .elementsMost);
+      leads = rw (k .counts .leads) (b .leadsMost);
+      gauges = rw (k .counts .gauges) (b .gaugesMost);
+      basins = rw (k .basins) (le-trans (basins-all _) (b .elementsMost));
+    }
 
 enum-known-verdict : tie.Need-enum-known-verdict
 enum-known-verdict c = search needs
@@ -26,7 +36,8 @@ no-plan-requires c κs = search needs
 returns : tie.Need-returns
 returns c =
     let e = c .before in
-    plan-replied _ _ (table-accepted _ _ (e .before .before .read .ensures) (e .enum-told .given .1) .kept) (c .plan-of .ensures)
+    let k = table-accepted _ _ (e .before .before .read .ensures) (e .enum-told .given .1) in
+    plan-replied _ _ (k .kept) (c .plan-of .ensures .of _ (k .counts) (k .basins))
 
 returns-2 : tie.Need-returns-2
 returns-2 c =

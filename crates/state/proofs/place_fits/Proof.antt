@@ -1,11 +1,20 @@
 -- `place_fits` meets its contract.
 use borrow.Author.Needs.{needs}
-use mathlib.Core.Path.{sym, _∙_}
-use Rattle.elements.proofs.KindLaws.{by-basin, by-reach, by-none}
-use Rattle.state.specs.States.{placeOf}
-use Rattle.state.specs.Rules.{placeFits}
+use borrow.Author.Tests.{not-true, not-false}
+use mathlib.Core.Bool.{Bool, true, false}
+use mathlib.Core.Path.{_≡_, refl, sym, ap, _∙_}
+use Rattle.elements.proofs.KindLaws.{by-basin, by-reach, by-none, kind-cases}
+use Rattle.state.specs.States.{figuresOf, placeOf}
+use Rattle.state.specs.Rules.{figuresFit, placeFits}
 use Rattle.state.proofs.place_fits.Statement.{statement}
 use Rattle.state.proofs.place_fits.Tie as tie
+
+-- the test of the figures that were read
+figures :
+    (c : tie.After-figures-fit)
+    → let s = c .before .before in
+    c .figures-fit .result ≡ figuresFit (figuresOf (s .args .state .now) (s .args .i))
+figures c = c .figures-fit .ensures ∙ ap figuresFit (c .before .figures-of .ensures)
 
 figures-of-requires : tie.Need-figures-of-requires
 figures-of-requires c κs = search needs
@@ -13,26 +22,35 @@ figures-of-requires c κs = search needs
 figures-fit-requires : tie.Need-figures-fit-requires
 figures-fit-requires c κs = search needs
 
+returns : tie.Need-returns
+unfolding placeFits placeOf
+returns c =
+    rw (sym (figures (c .before)) ∙ not-true _ (c .if1 .taken))
+    (kind-cases (λ (fit : Bool). false ≡ fit) _ (λ _. refl) (λ _. refl) (λ _ _. refl))
+
 rains-of-requires : tie.Need-rains-of-requires
 rains-of-requires c κs = search needs
 
 rains-fit-requires : tie.Need-rains-fit-requires
 rains-fit-requires c κs = search needs
 
-figures-fit-requires-2 : tie.Need-figures-fit-requires-2
-figures-fit-requires-2 c κs = search needs
-
-returns : tie.Need-returns
-unfolding placeFits placeOf
-returns c = rw (c .before .before .figures-fit .ensures, c .rains-fit .ensures, c .before .rains-of .ensures, c .before .before .before .before .figures-of .ensures) (sym (by-basin _ _ _ _ (c .before .before .before .match .keys1)))
+-- the figures that were found to fit
+fitting : (c : tie.Else1) → let s = c .before .before .before in figuresFit (figuresOf (s .args .state .now) (s .args .i)) ≡ true
+fitting c = sym (figures (c .before)) ∙ not-false _ (c .if1 .left)
 
 returns-2 : tie.Need-returns-2
 unfolding placeFits placeOf
-returns-2 c = rw (c .figures-fit2 .ensures, c .before .before .figures-of .ensures) (sym (by-reach _ _ _ _ (c .before .match .keys2)))
+returns-2 c =
+    let m = c .before .before in
+    rw (c .rains-fit .ensures, c .before .rains-of .ensures, fitting (m .before)) (sym (by-basin _ _ _ _ (m .match .keys1)))
 
 returns-3 : tie.Need-returns-3
+unfolding placeFits placeOf
+returns-3 c = rw (fitting (c .before)) (sym (by-reach _ _ _ _ (c .match .keys2)))
+
+returns-4 : tie.Need-returns-4
 unfolding placeFits
-returns-3 c = sym (by-none _ _ _ _ (c .match .rest .0 .1) (c .match .rest .1))
+returns-4 c = sym (by-none _ _ _ _ (c .match .rest .0 .1) (c .match .rest .1))
 
 pub place-fits-spec : {M : Type 1} → statement M
 place-fits-spec =
@@ -40,9 +58,9 @@ place-fits-spec =
     (tie.spec
     figures-of-requires
     figures-fit-requires
+    returns
     rains-of-requires
     rains-fit-requires
-    figures-fit-requires-2
-    returns
     returns-2
-    returns-3)
+    returns-3
+    returns-4)

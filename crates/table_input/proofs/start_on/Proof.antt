@@ -1,6 +1,6 @@
 -- `start_on` meets its contract.
 use borrow.Author.Needs.{needs}
-use mathlib.Core.Path.{refl, _∙_}
+use mathlib.Core.Path.{refl}
 use native.Mathlib.Omega.{arith}
 use Rattle.table.proofs.HeldLaws.{table-accepted, table-refused}
 use Rattle.table_input.proofs.StartsLaws.{start-accepted, start-refused, never-both}
@@ -18,12 +18,14 @@ start-on-requires c κs =
     let e = c .before in
     let k = table-accepted _ _ (e .before .before .before .read .ensures) (e .enum-told .given .1) in (k .table, k .counts .elements)
 
-prepare-requires : tie.Need-prepare-requires
-prepare-requires c κs =
+put-weights-requires : tie.Need-put-weights-requires
+put-weights-requires c κs =
     let e = c .before .before .before in
     let k = table-accepted _ _ (e .before .before .before .read .ensures) (e .enum-told .given .1) in
-    let s = e .before .before .before .before .before .before in
-    ((k .table, k .counts), omega (arith, k .table .bounds .elementsMost, s .pre))
+    let s = e .before .before .before .before .before .before in (
+      record { table = k .table; step = k .counts .step; elements = k .counts .elements },
+      omega (arith, k .counts .elements, k .table .bounds .elementsMost, s .pre),
+    )
 
 enum-told-2 : tie.Need-enum-told-2
 enum-told-2 c = search needs
@@ -36,8 +38,13 @@ returns c =
     let p = c .before .before in
     let o = p .before .before in
     let e = o .before .before in
-    let k = table-accepted _ _ (e .before .before .before .read .ensures) (e .enum-told .given .1) in
-    (record { answered = start-accepted _ _ _ _ (k .kept) (e .enum-told .given .1) (o .start-on .ensures); fits = λ _. p .prepare .ensures }, refl)
+    let k = table-accepted _ _ (e .before .before .before .read .ensures) (e .enum-told .given .1) in (
+      record {
+        answered = start-accepted _ _ _ _ (k .kept) (e .enum-told .given .1) (o .start-on .ensures);
+        fits = λ _. record { table = k .table; held = k .counts; basins = k .basins; weights = p .put-weights .ensures };
+      },
+      refl,
+    )
 
 returns-2 : tie.Need-returns-2
 returns-2 c =
@@ -52,7 +59,7 @@ start-on-spec =
     read-requires
     enum-told
     start-on-requires
-    prepare-requires
+    put-weights-requires
     enum-told-2
     same-length
     returns

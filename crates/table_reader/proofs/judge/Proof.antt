@@ -3,6 +3,7 @@ use Prim.{Unit}
 use Prim.Native.Nat.{ℕ, _+_, _*_, _≤_}
 use mathlib.Core.Bool.{true}
 use mathlib.Core.Path.{_≡_}
+use borrow.Author.Needs.{needs}
 use borrow.Author.Tests.{not-false}
 use mathlib.Core.List.{List}
 use native.Mathlib.Omega.{arith}
@@ -23,40 +24,55 @@ use Rattle.table.proofs.TableLaws.{
   downs-judged,
   gauges-judged,
 }
-use Rattle.table.proofs.HeldLaws.{header-whole, all-there}
+use Rattle.table.proofs.BasinLaws.{all-counted}
+use Rattle.table.proofs.HeldLaws.{header-whole, all-there, refused-read}
 use Rattle.table_reader.proofs.judge.Statement.{statement}
 use Rattle.table_reader.proofs.judge.Tie as tie
 
 version-fits-requires : tie.Need-version-fits-requires
 version-fits-requires c κs = header-whole _ (c .before .pre .0)
 
+refused-requires : tie.Need-refused-requires
+refused-requires c κs = search needs
+
 returns : tie.Need-returns
 unfolding tableRules
 returns c =
-    let start = c .before .before .before in
-    rw (start .pre .0, broken (c .before .version-fits .ensures) (c .if1 .taken))
+    let one = c .before in
+    refused-read _ _ (c .refused .ensures)
+    (rw (one .before .before .before .pre .0, broken (one .before .version-fits .ensures) (one .if1 .taken)))
 
 counts-fit-requires : tie.Need-counts-fit-requires
 counts-fit-requires c κs = header-whole _ (c .before .before .before .pre .0)
 
+refused-requires-2 : tie.Need-refused-requires-2
+refused-requires-2 c κs = search needs
+
 returns-2 : tie.Need-returns-2
 unfolding tableRules
 returns-2 c =
-    let two = c .before .before in
-    let version = kept (two .before .version-fits .ensures) (two .if1 .left) in
-    rw (two .before .before .before .pre .0, version, broken (c .before .counts-fit .ensures) (c .if2 .taken))
+    let two = c .before in
+    let one = two .before .before in
+    let version = kept (one .before .version-fits .ensures) (one .if1 .left) in
+    refused-read _ _ (c .refused2 .ensures)
+    (rw (one .before .before .before .pre .0, version, broken (two .before .counts-fit .ensures) (two .if2 .taken)))
 
 size-fits-requires : tie.Need-size-fits-requires
 size-fits-requires c κs = header-whole _ (c .before .before .before .before .before .pre .0)
 
+refused-requires-3 : tie.Need-refused-requires-3
+refused-requires-3 c κs = search needs
+
 returns-3 : tie.Need-returns-3
 unfolding tableRules
 returns-3 c =
-    let three = c .before .before in
+    let three = c .before in
     let two = three .before .before in
-    let version = kept (two .before .version-fits .ensures) (two .if1 .left) in
-    let counts = kept (three .before .counts-fit .ensures) (three .if2 .left) in
-    rw (two .before .before .before .pre .0, version, counts, broken (c .before .size-fits .ensures) (c .if3 .taken))
+    let one = two .before .before in
+    let version = kept (one .before .version-fits .ensures) (one .if1 .left) in
+    let counts = kept (two .before .counts-fit .ensures) (two .if2 .left) in
+    refused-read _ _ (c .refused3 .ensures)
+    (rw (one .before .before .before .pre .0, version, counts, broken (three .before .size-fits .ensures) (three .if3 .taken)))
 
 -- the header's rules are kept
 abbrev start : tie.Else3 → tie.Start
@@ -110,10 +126,14 @@ module _ (c : tie.After-judge-elements) where
   unfolding tableOf
   downs fit = downs-judged _ (start (c .before) .pre .1 .elements) (c .judge-elements .ensures .later fit)
 
+refused-requires-4 : tie.Need-refused-requires-4
+refused-requires-4 c κs = search needs
+
 returns-4 : tie.Need-returns-4
 returns-4 c =
-    let j = c .before .before in
-    rw (left (j .before), broken (elements j) (c .if4 .taken))
+    let four = c .before in
+    let j = four .before .before in
+    refused-read _ _ (c .refused4 .ensures) (rw (left (j .before), broken (elements j) (four .if4 .taken)))
 
 -- all elements keep rule 5
 module _ (c : tie.Else4) where
@@ -123,10 +143,14 @@ module _ (c : tie.Else4) where
   later : c .before .before .judge-elements .result .later ≡ downsFit (tableOf (bytes (c .before .before .before)))
   later = downs (c .before .before) (not-false _ (c .if4 .left))
 
+refused-requires-5 : tie.Need-refused-requires-5
+refused-requires-5 c κs = search needs
+
 returns-5 : tie.Need-returns-5
 returns-5 c =
-    let five = c .before .before in
-    rw (left (five .before .before .before), fits five, broken (later five) (c .if5 .taken))
+    let five = c .before in
+    let four = five .before .before in
+    refused-read _ _ (c .refused5 .ensures) (rw (left (four .before .before .before), fits four, broken (later four) (five .if5 .taken)))
 
 gauges-fit-requires : tie.Need-gauges-fit-requires
 gauges-fit-requires c κs = there (c .before .before .before .before .before)
@@ -139,31 +163,48 @@ gauges c =
     let held = start (c .before .before .before .before .before .before) .pre .1 in
     gauges-judged _ (held .elements) (held .gauges) (c .gauges-fit .ensures)
 
+refused-requires-6 : tie.Need-refused-requires-6
+refused-requires-6 c κs = search needs
+
 returns-6 : tie.Need-returns-6
 returns-6 c =
-    let six = c .before .before in
+    let six = c .before in
     let five = six .before .before in
-    rw (left (five .before .before .before), fits five, kept (later five) (six .if5 .left), broken (gauges (c .before)) (c .if6 .taken))
+    let four = five .before .before in
+    refused-read _ _ (c .refused6 .ensures)
+    (rw (left (four .before .before .before), fits four, kept (later four) (five .if5 .left), broken (gauges (six .before)) (six .if6 .taken)))
 
 returns-7 : tie.Need-returns-7
 returns-7 c =
-    let six = c .before .before in
-    let five = six .before .before in
-    rw (left (five .before .before .before), fits five, kept (later five) (six .if5 .left), kept (gauges (c .before)) (c .if6 .left))
+    let five = c .before .before in
+    let four = five .before .before in
+    let j = four .before .before in
+    let held = start (j .before) .pre .1 in
+    record {
+      verdict = rw (left (j .before), fits four, kept (later four) (five .if5 .left), kept (gauges (c .before)) (c .if6 .left));
+      counts = λ _. record { step = held .step; leads = held .leads; elements = held .elements; gauges = held .gauges };
+      basins = λ _. all-counted _ (held .elements) (j .judge-elements .ensures .basins (not-false _ (four .if4 .left)));
+    }
 
 pub judge-spec : {M : Type 1} → statement M
 judge-spec =
     tie.close
     (tie.spec
     version-fits-requires
+    refused-requires
     returns
     counts-fit-requires
+    refused-requires-2
     returns-2
     size-fits-requires
+    refused-requires-3
     returns-3
     judge-elements-requires
+    refused-requires-4
     returns-4
+    refused-requires-5
     returns-5
     gauges-fit-requires
+    refused-requires-6
     returns-6
     returns-7)

@@ -1,28 +1,22 @@
 -- `read` meets its contract.
-use Prim.Native.Nat.{ℕ}
-use mathlib.Core.Path.{_≡_}
 use borrow.Author.Needs.{needs}
-use native.Mathlib.Omega.{arith}
 use Rattle.table.specs.Rules.{tableRules}
-use Rattle.table.proofs.TableLaws.{kept, broken, rules-kept}
-use Rattle.table.proofs.HeldLaws.{header-whole}
+use Rattle.table.proofs.TableLaws.{kept, broken}
+use Rattle.table.proofs.HeldLaws.{header-whole, refused-read}
 use Rattle.table_reader.proofs.read.Statement.{statement}
 use Rattle.table_reader.proofs.read.Tie as tie
 
 length-fits-requires : tie.Need-length-fits-requires
 length-fits-requires c κs = search needs
 
+refused-requires : tie.Need-refused-requires
+refused-requires c κs = search needs
+
 returns : tie.Need-returns
 unfolding tableRules
 returns c =
-    let e = broken (c .before .length-fits .ensures) (c .if1 .taken) in
-    record {
-      verdict = rw e;
-      counts = λ h.
-          let k = rules-kept _ h .header .length in
-          let z : _≡_ {A = ℕ} 0 1 = cc in
-          absurd (omega arith);
-    }
+    let one = c .before in
+    refused-read _ _ (c .refused .ensures) (rw (broken (one .before .length-fits .ensures) (one .if1 .taken)))
 
 counts-of-requires : tie.Need-counts-of-requires
 counts-of-requires c κs = header-whole _ (kept (c .before .length-fits .ensures) (c .if1 .left))
@@ -36,4 +30,4 @@ returns-2 c = search needs
 
 pub read-spec : {M : Type 1} → statement M
 read-spec =
-    tie.close (tie.spec length-fits-requires returns counts-of-requires judge-requires returns-2)
+    tie.close (tie.spec length-fits-requires refused-requires returns counts-of-requires judge-requires returns-2)

@@ -1,0 +1,36 @@
+-- Serves the code: the weights of an accepted table's elements, kept in lent numbers for many steps, or none of them.
+use Prim.Native.Nat.{ℕ, _<_}
+use mathlib.Core.List.{List}
+use mathlib.Core.Path.{_≡_}
+use lib.ListN.{length, getD}
+use Rattle.table.specs.declared.Counts.{Counts}
+use Rattle.table.specs.Tables.{TableValues}
+use Rattle.table.specs.Basins.{basinCount}
+use Rattle.table.specs.Bounds.{AcceptedTable}
+use Rattle.table.specs.Decoded.{CountsHeld}
+use Rattle.table.specs.InUse.{tableIn}
+use Rattle.network.specs.Step.{weightOf}
+
+-- T and N of an accepted table
+pub record Weighable (bytes : List ℕ) (T n : ℕ) : Type 0 where
+  pub table : AcceptedTable bytes
+  pub step : T ≡ tableIn bytes .step
+  pub elements : n ≡ tableIn bytes .elements
+
+-- as many weights as there are stand for the elements in order
+pub record WeightsHeld (t : TableValues) (weight : List ℕ) : Type 0 where
+  pub at : (i : ℕ) → i < t .elements → i < length weight → getD weight i 0 ≡ weightOf t i
+
+-- an element in use
+pub record WeightReady (bytes : List ℕ) (T : ℕ) (weight : List ℕ) (i : ℕ) : Type 0 where
+  pub table : AcceptedTable bytes
+  pub step : T ≡ tableIn bytes .step
+  pub weights : WeightsHeld (tableIn bytes) weight
+  pub used : i < tableIn bytes .elements
+
+-- the counts of an accepted table, and weights of its elements
+pub record Weighed (bytes : List ℕ) (counts : Counts) (weight : List ℕ) : Type 0 where
+  pub table : AcceptedTable bytes
+  pub held : CountsHeld counts (tableIn bytes)
+  pub basins : counts .basins ≡ basinCount (tableIn bytes)
+  pub weights : WeightsHeld (tableIn bytes) weight

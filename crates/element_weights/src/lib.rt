@@ -1,0 +1,31 @@
+// The weights of an accepted table's elements: worked out once for many steps in lent numbers, or where an element is read.
+ghost use mathlib.Core.Path.{_≡_};
+ghost use Prim.Native.Nat.{_≤_};
+ghost use lib.ListN.{length};
+ghost use Rattle.units.specs.Units.{S};
+ghost use Rattle.table.specs.InUse.{tableIn};
+ghost use Rattle.network.specs.Step.{weightOf};
+ghost use Rattle.element_weights.specs.Weights.{Weighable, WeightsHeld, WeightReady};
+use elements::lag_at;
+use weighting::weight::series_weight;
+
+// The weights of the n elements of an accepted table with this step, put into lent numbers.
+pub fn put_weights(table: &[u8], step: u64, n: usize, weights: &mut [u64])
+    requires { ⌜ Weighable (now table) step n × (n ≤ length (now weights)) ⌝ }
+    ensures { λ _. ⌜ WeightsHeld (tableIn (now (table .entry))) (now (weights .exit)) ⌝ }
+{
+    for i in 0..n {
+        weights[i] = series_weight(step, lag_at(table, i));
+    }
+}
+
+// The weight of element i, counted from 0: as it stands in lent numbers, or worked out where they do not have it.
+pub fn weight_of(table: &[u8], step: u64, weights: &[u64], i: usize) -> u64
+    requires { ⌜ WeightReady (now table) step (now weights) i ⌝ }
+    ensures { λ r. ⌜ (r ≡ weightOf (tableIn (now (table .entry))) i) × (r ≤ S) ⌝ }
+{
+    if i < weights.len() {
+        return weights[i];
+    }
+    series_weight(step, lag_at(table, i))
+}

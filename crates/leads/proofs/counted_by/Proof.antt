@@ -1,0 +1,12 @@
+-- `counted_by` meets its contract.
+use Rattle.leads.proofs.counted_by.Statement.{statement}
+use Rattle.leads.proofs.counted_by.Tie as tie
+
+returns : tie.Need-returns
+returns c = rw (c .if1 .taken)
+
+returns-2 : tie.Need-returns-2
+returns-2 c = rw (c .if1 .left)
+
+pub counted-by-spec : {M : Type 1} → statement M
+counted-by-spec = tie.close (tie.spec returns returns-2)

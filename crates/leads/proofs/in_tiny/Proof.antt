@@ -1,0 +1,20 @@
+-- `in_tiny` meets its contract.
+use borrow.Author.Needs.{needs}
+use Rattle.leads.proofs.AnswerLaws.{zeros-ready}
+use Rattle.leads.proofs.in_tiny.Statement.{statement}
+use Rattle.leads.proofs.in_tiny.Tie as tie
+
+slice-aggregate-copy-out : tie.Need-slice-aggregate-copy-out
+slice-aggregate-copy-out c = search needs
+
+copy-out-requires : tie.Need-copy-out-requires
+copy-out-requires c κs = zeros-ready (c .before .before .before .before .before .pre)
+
+same-length : tie.Need-same-length
+same-length c = search needs
+
+returns : tie.Need-returns
+returns c = search needs
+
+pub in-tiny-spec : {M : Type 1} → statement M
+in-tiny-spec = tie.close (tie.spec slice-aggregate-copy-out copy-out-requires same-length returns)

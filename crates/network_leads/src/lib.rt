@@ -1,0 +1,95 @@
+// All elements through all leads of a forecast, in one space in which each place holds what drains into an element until its turn and its
+// figures from then on.
+ghost use mathlib.Core.Path.{_≡_};
+ghost use Rattle.elements.specs.Elements.{elementAt};
+ghost use Rattle.table.specs.InUse.{tableIn};
+ghost use Rattle.state.specs.States.{rainsOf};
+ghost use Rattle.network_leads.specs.Inputs.{InputReady, inputOf, leadInput};
+ghost use Rattle.network_leads.specs.Worked.{Given, Cleared, LeadsWorked};
+use answer_space::put_figures;
+use element_weights::weight_of;
+use elements::Element;
+use elements::element_at;
+use elements::kind_at;
+use inflow::mean_rain_inflow;
+use lead_walk::work_element;
+use one_lead::ElementInput;
+use rain_sums::rain_count;
+use rain_sums::sum_of;
+use record::Observation;
+use refusal::Refusal;
+use refusal::Verdict;
+use sizes::STATE_NUMBERS;
+use state::figures_of;
+
+// What the leads of an element are worked out from: its weight, and the inflow that its last rains bring.
+fn input_of(element: Element, weight: u64, rain_inflow: u64) -> ElementInput
+    ensures { λ r. ⌜ r ≡ inputOf element weight «rain_inflow» ⌝ }
+{
+    ElementInput {
+        element,
+        weight,
+        rain_inflow,
+        first_lead: 1,
+        observation: Observation::Nothing,
+    }
+}
+
+// The same of element i, counted from 0, of whose last rains there are `count`: only a basin's are read.
+fn lead_input(
+    table: &[u8],
+    i: usize,
+    weight: u64,
+    count: u64,
+    state: &[u64; STATE_NUMBERS],
+) -> ElementInput
+    requires { ⌜ InputReady (now table) (now state) i count ⌝ }
+    ensures { λ r. ⌜ r ≡ leadInput (elementAt (now (table .entry)) i) weight count (rainsOf (now (state .entry)) i) ⌝ }
+{
+    let kind = kind_at(table, i);
+    match kind {
+        elements::BASIN => {
+            let sum = sum_of(kind, state, i, count);
+            let element = element_at(table, i);
+            input_of(
+                element,
+                weight,
+                mean_rain_inflow(sum, count, element.area, element.runoff),
+            )
+        }
+        elements::REACH => input_of(element_at(table, i), weight, 0),
+        _ => input_of(element_at(table, i), weight, 0),
+    }
+}
+
+// All n elements, each through all leads, in a space that has room for them and nothing in it: element number k at lead l at place
+// k * (leads + 1) + l. 16 where a number passes the ceiling.
+pub fn work_leads(
+    table: &[u8],
+    n: usize,
+    leads: usize,
+    step: u64,
+    weights: &[u64],
+    state: &[u64; STATE_NUMBERS],
+    space: &mut [u64],
+) -> Verdict
+    requires { ⌜ Given (now table) n leads step (now weights) (now state) × Cleared (tableIn (now table)) (now space) ⌝ }
+    ensures { λ r. ⌜ LeadsWorked r (now (space .exit)) (tableIn (now (table .entry))) (now (state .entry)) ⌝ }
+{
+    let width = leads + 1;
+    let steps = state[1];
+    let count = rain_count(steps);
+    for i in 0..n {
+        let first = figures_of(state, i);
+        let own = (i + 1) * width;
+        let here = own + 1;
+        put_figures(&mut *space, own, first);
+        let input = lead_input(table, i, weight_of(table, step, weights, i), count, state);
+        let element = input.element;
+        let below = element.down * width + 1;
+        let Verdict::Accepted = work_element(input, first, here, below, leads, &mut *space) else {
+            return Verdict::Refused(Refusal::AboveCeiling);
+        };
+    }
+    Verdict::Accepted
+}
