@@ -12,6 +12,7 @@ ghost use Rattle.element_step.specs.Answers.{correctedAnswer, movedAnswe
 use correction::correct;
 use elements::Element;
 use inflow::basin_inflow;
+use inflow::reach_inflow;
 use method::Figures;
 use method::FiguresAnswer;
 use record::Observation;
@@ -52,10 +53,7 @@ fn step_reach(e: Element, weight: u64, above: Figures, old: Figures) -> FiguresA
     ensures { λ r. ⌜ (figuresAnswer r ≡ movedAnswer weight e above old) × AnsweredFiguresFit r ⌝ }
 {
     let noise = e.system_noise;
-    let FiguresAnswer::Accepted(inflow) = Figures::new(
-        above.discharge_estimate(),
-        above.variance_estimate(),
-    ) else {
+    let FiguresAnswer::Accepted(inflow) = reach_inflow(above) else {
         return FiguresAnswer::Refused(Refusal::AboveCeiling);
     };
     routed_figures(
@@ -129,10 +127,7 @@ fn lead_reach(e: Element, weight: u64, above: Figures, old: Figures) -> FiguresA
     ensures { λ r. ⌜ (figuresAnswer r ≡ movedAnswer weight e above old) × AnsweredFiguresFit r ⌝ }
 {
     let noise = e.system_noise;
-    let FiguresAnswer::Accepted(inflow) = Figures::new(
-        above.discharge_estimate(),
-        above.variance_estimate(),
-    ) else {
+    let FiguresAnswer::Accepted(inflow) = reach_inflow(above) else {
         return FiguresAnswer::Refused(Refusal::AboveCeiling);
     };
     routed_figures(

@@ -1,4 +1,4 @@
-// The inflow of a basin from rain.
+// The inflow of an element: a basin's from rain, a reach's from what drains in.
 ghost use mathlib.Core.Path.{_≡_};
 ghost use Prim.Native.Nat.{_≤_};
 ghost use Rattle.method.specs.Figures.{figuresAnswer, AnsweredFiguresFit};
@@ -37,4 +37,11 @@ pub fn basin_inflow(rain_inflow: u64, lead: u64, noise: u64) -> FiguresAnswer
             margin: 0,
         },
     )
+}
+
+// The figures of a reach's inflow: those of all elements that drain into it, summed.
+pub fn reach_inflow(above: Figures) -> FiguresAnswer
+    ensures { λ r. ⌜ (figuresAnswer r ≡ inflowAnswer above) × AnsweredFiguresFit r ⌝ }
+{
+    Figures::new(above.discharge_estimate(), above.variance_estimate())
 }
