@@ -27,7 +27,7 @@ pub const SMALL_STEP_SPACE: usize = 4 * (SMALL_ELEMENTS + 1);
 pub const STEP_SPACE: usize = 4 * (MOST_ELEMENTS + 1);
 
 // The numbers of the working space of a forecast, the same at leads 0 to L: for three elements at one lead, for one element at all leads
-// (or fourteen at one), for eight elements at all leads (or all elements at one), and for any.
+// (or fifteen at one), for nine elements at all leads (or all elements at one), and for any.
 pub const TINY_FORECAST_SPACE: usize = 32;
 
 pub const SMALL_FORECAST_SPACE: usize = 128;
