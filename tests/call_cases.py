@@ -8,8 +8,8 @@ from typing import Callable
 
 from calculator.encode import big_endian, record_bytes, table_bytes
 from calculator.whole_numbers import BASIN, CEILING, GAP, MOST_ELEMENTS, SCALE, Figures, Refused, Rules, State, decode_table, start, step
-from inputs import (SHAPES, SMALL_RECORDS, WAYS, basin, gauge, rule_edits, reach, small_table, some_records, some_table, spoiled,
-                    spoiled_values)
+from inputs import (SHAPES, SMALL_RECORDS, WAYS, basin, gauge, last_places, rule_edits, reach, small_table, some_records, some_table,
+                    spoiled, spoiled_values)
 
 LARGEST = 2 ** 64 - 1
 ROOM_FOR_ALL = 4 * 64 * 13
@@ -433,6 +433,9 @@ def cut_calls(random):
         for told in (9, 9 + extra):
             yield Call(f"record longer by {extra}", "step", SMALL, state, big_endian(told, 2) + SMALL_RECORD[2:] + bytes(extra))
     yield Call("record of 65,538 bytes, length 0", "step", SMALL, state, big_endian(0, 2) + bytes(65_536))
+    for size in range(4, 10):
+        yield Call(f"table cut at {size}, as its length says", "start", big_endian(size - 4, 4) + SMALL[4:size], state)
+    yield Call("table cut and of version 2", "start", spoiled(SMALL, 4, 2)[:-1], state)
 
 
 def spoiled_calls(random):
@@ -444,6 +447,15 @@ def spoiled_calls(random):
     for at in range(len(SMALL_RECORD)):
         for value in spoiled_values(SMALL_RECORD[at]):
             yield Call(f"record spoiled at {at} by {value}", "step", SMALL, state, spoiled(SMALL_RECORD, at, value))
+
+
+def last_place_calls(random):
+    """Rules 5 to 7 and 12 to 14 at the last place that they can be broken at."""
+    for name, *rivers in last_places():
+        for table, record in rivers:
+            data = table_bytes(table)
+            yield Call(f"{name}, start", "start", data, noise_state(random), side=random.randrange(2))
+            yield Call(f"{name}, step", "step", data, state_of(64, 0), record_bytes(*record), side=random.randrange(2))
 
 
 def empty_calls(random):
@@ -603,5 +615,5 @@ def cases():
                                ("random, 64 elements", random_calls(64), 24), ("noise", noise_calls, 60)):
         found += [Case(name, build) for _ in range(count)]
     found += [Case("run", run_calls(), exact=True) for _ in range(40)] + [Case("run of 12", run_calls(12), exact=True) for _ in range(2)]
-    found += [Case("check", check_calls), Case("version", version_calls)]
+    found += [Case("check", check_calls), Case("version", version_calls), Case("last places", last_place_calls)]
     return found

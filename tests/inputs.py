@@ -325,6 +325,26 @@ def lowest_wins():
     yield "a record of 65,535 bytes and a good one", edited([])[:-11] + big_endian(65_535, 2) + bytes([1]) * 65_535 + edited([])[-11:]
 
 
+def last_places():
+    """Rules 5 to 7 and 12 to 14 at the last of 64 elements, 16 gauges, 63 rains and 16 stages: a name, and twice a table with a record, of
+    which the first passes and the second does not."""
+    def river(element=(), above=(), last_gauge=(), rain=0, stage=GAP):
+        elements = [basin(down=64, area=1) for _ in range(62)] + [basin(down=64, area=1) | dict(above)] + [reach() | dict(element)]
+        gauges = [gauge(number, pieces=[(30_001, 1, -500)]) for number in range(49, 65)]
+        gauges[-1] |= dict(last_gauge)
+        return dict(T=60, L=1, elements=elements, gauges=gauges), ((0,) * 62 + (rain,), (GAP,) * 15 + (stage,))
+
+    five = [(top, 1, -500) for top in (1, 2, 3, 4, 30_001)]
+    yield "5, lag 60 and 59 of element 64", river(), river(element=dict(lag=59))
+    yield "6, down 64 and 63 of element 63", river(), river(above=dict(down=63))
+    yield "7, R 1 and 0 of gauge 16", river(last_gauge=dict(R=1)), river(last_gauge=dict(R=0))
+    yield "7, gauge 16 after gauge 15 and at its element", river(), river(last_gauge=dict(element=63))
+    yield "7, 5 and 6 pieces of five", river(last_gauge=dict(pieces=five)), river(last_gauge=dict(pieces=five, used=6))
+    yield "12, last rain 3,000 and 3,001", river(rain=3_000), river(rain=3_001)
+    yield "13, last stage 30,000 and 30,001", river(stage=30_000), river(stage=30_001)
+    yield "14, last stage 500 and 499", river(stage=500), river(stage=499)
+
+
 def ceiling_of_curve():
     """Rule 14: z exactly C, C and a rest that is rounded away, and C + 1."""
     def at(a, depth):
@@ -601,6 +621,9 @@ def inputs(long=False):
         add("more than 100,000 records, a cut one", many_records(refused, 100_000, b"\0"), fractions=False)
         add("99,999 records and a cut one", many_records(refused, 99_999, b"\0\1"), fractions=False)
         add("rain refusals beyond 100,000", many_rain_refusals, fractions=False)
+    for name, *rivers in last_places():
+        for table, record in rivers:
+            add(f"last place: {name}", fixed(whole_input(table, [record, record])))
     return found
 
 
