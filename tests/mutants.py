@@ -1,7 +1,7 @@
 #!/usr/bin/env python3
 """Shows that the judge can fail: deliberately wrong programs in the place of the program under test, each of which must be caught.
 
-    python3 tests/mutants.py [--libraries]
+    python3 tests/mutants.py [--libraries | --papers]
 
 For each mutant the checks of judge.py that caught it are printed with the count of inputs; the last line is
 "mutants: N tried, F not caught". Each is tried on some dozens of generated.py's quick inputs; on the slow ones (10,000 steps, 100,000
@@ -9,13 +9,16 @@ records) only where these do not catch it, and on the other small ones last.
 
 Wrong libraries in the place of the C interface follow, which the comparison of calls.py must catch; with --libraries these alone. The last
 of them are in C: bench/plain_calls.c, which must pass as it stands, with one place changed; these wrong ones touch memory that is not
-theirs (needs gcc).
+theirs (needs gcc). Before them come wrong papers, which paper.py must catch: docs/METHOD.md with one figure of its worked examples changed,
+each figure in turn, and the page as it stands where the method is another; with --papers these alone.
 """
 import subprocess
 import sys
 from array import array
 from dataclasses import replace
 
+import paper_figures
+import paper
 from calculator import whole_numbers
 from calculator.program import Program, run
 from calculator.whole_numbers import BASIN, CEILING, GAP, HIGHEST_STAGE, SCALE, Figures, Refused, Rules, State, decode_table, number_at
@@ -776,9 +779,43 @@ def try_programs():
     return tried, missed
 
 
+# Rules that change figures of the worked examples.
+WRONG_METHODS = (GainMarginTwo, ReadingsIgnored, CorrectionVarianceKept, RainSumByThree, LastRainOnly, LeadNoiseOnce,
+                 VarianceWeightNotSquared, SystemNoiseLeftOut, WeightsExchanged, ShortSeries)
+
+
+def changed_figures(text):
+    """A worked example with one figure one higher in its last digit, each in turn."""
+    for found in paper.NUMBER.finditer(paper.BLOCK.sub("", text)):
+        end = found.end()
+        yield text[:end - 1] + str((int(text[end - 1]) + 1) % 10) + text[end:]
+
+
+def try_papers():
+    """Wrong papers: how many were tried and how many not caught."""
+    there = paper.examples(paper.METHOD.read_text())
+    figures = missed = 0
+    for name, text in there.items():
+        right = paper.worked()[name]()
+        for wrong in changed_figures(paper.BLOCK.sub("", text)):
+            figures, missed = figures + 1, missed + (paper.compare_example(name, wrong, lambda: right) is None)
+    print(f"papers with a changed figure: {figures} tried, {missed} not caught")
+    for wrong in WRONG_METHODS:
+        paper_figures.RULES, paper_figures.Noted = wrong(), paper_figures.noting(wrong)
+        caught = [name for name, text in there.items() if paper.compare_example(name, text, paper.worked()[name])]
+        print(f"paper under {wrong.__name__}: {', '.join(caught) or 'NOT CAUGHT'}")
+        missed += not caught
+    paper_figures.RULES, paper_figures.Noted = whole_numbers.RULES, paper_figures.noting(Rules)
+    return figures + len(WRONG_METHODS), missed
+
+
 def main():
-    tried, missed = (0, 0) if "--libraries" in sys.argv[1:] else try_programs()
-    for name, caught, used in caught_libraries():
+    chosen = sys.argv[1:]
+    tried, missed = (0, 0) if chosen else try_programs()
+    if "--libraries" not in chosen:
+        more, more_missed = try_papers()
+        tried, missed = tried + more, missed + more_missed
+    for name, caught, used in caught_libraries() if "--papers" not in chosen else ():
         tried, missed = tried + 1, missed + (caught == "NOT CAUGHT")
         print(f"library {name}: {caught} (case {used})")
     print(f"mutants: {tried} tried, {missed} not caught")

@@ -1,0 +1,146 @@
+#!/usr/bin/env python3
+"""Holds the papers to the calculator and the program, so that a changed method cannot leave them stale.
+
+    python3 tests/paper.py [--show NAME] [program]
+
+  figures   every number of each example "### Worked example: NAME" of docs/METHOD.md and examples/yubetsu-2001/README.md is, in order, what
+            paper_figures.py works out
+  inputs    each block of hex there, given to the calculator and to the built program, prints the block of text after it
+  files     the large one of these blocks is examples/three-elements/river.hex, and what it prints expected.txt there
+  lines     each printed line that README.md and the examples' own show stands in the expected output of the sample river
+
+--show prints the numbers of one example as the calculator has them, to write the page by. The program is target/bin/cabinet unless
+another path is given. The last line is "paper: N figures in M examples, K inputs, L lines, F failed".
+"""
+import argparse
+import re
+import subprocess
+import sys
+from pathlib import Path
+
+from calculator.program import run
+from paper_figures import sample_worked, worked
+
+ROOT = Path(__file__).resolve().parent.parent
+METHOD, SAMPLE = ROOT / "docs/METHOD.md", ROOT / "examples/yubetsu-2001"
+HEADING = "### Worked example: "
+# A word of four hex digits with a letter and a figure, or a number.
+NUMBER = re.compile(r"\b(?=[0-9A-F]{4}\b)(?=\w*[A-F])(?=\w*[0-9])\w+|\u2212?[0-9]+(?:,[0-9]{3}(?![0-9]))*(?:\.[0-9]+)?")
+BLOCK = re.compile(r"^```(\w+)\n(.*?)^```$", re.MULTILINE | re.DOTALL)
+# Where printed lines are shown, their form, and the file in which each must stand.
+FIGURE_LINE, OUTLET_LINE = r"^    ([0-9]+(?: [0-9]+){6})$", r"^    (step [0-9]+: .*)$"
+SHOWN = ((ROOT / "README.md", FIGURE_LINE, SAMPLE / "expected.txt"), (SAMPLE / "README.md", FIGURE_LINE, SAMPLE / "expected.txt"),
+         (ROOT / "examples/c/README.md", OUTLET_LINE, ROOT / "examples/c/expected.txt"))
+
+
+def numbers(text):
+    """All numbers of a text in order, without their commas; blocks of hex and of output are not looked at."""
+    return [found.replace(",", "") for found in NUMBER.findall(BLOCK.sub("", text))]
+
+
+def examples(page):
+    """The text of each worked example by its name."""
+    found = {}
+    for part in re.split(r"^(?=#{1,3} )", page, flags=re.MULTILINE):
+        if part.startswith(HEADING):
+            name, _, text = part[len(HEADING):].partition("\n")
+            found[name] = text
+    return found
+
+
+def compare_example(name, text, expected):
+    """What differs between an example and the calculator's numbers; nothing where all agree."""
+    try:
+        right = numbers(expected())
+    except Exception as error:  # an assertion, or other blends than the example writes
+        return f"{name}: the calculator no longer works in the way that the example writes ({error!r})"
+    given = numbers(text)
+    for at, (here, there) in enumerate(zip(given, right)):
+        if here != there:
+            return f"{name}: number {at + 1}, after {' '.join(given[max(0, at - 4):at])}, is {here}, the calculator has {there}"
+    if len(given) != len(right):
+        return f"{name}: {len(given)} numbers, the calculator has {len(right)}"
+    return None
+
+
+def figures(page, right):
+    """How many numbers and examples of a page were compared, and the complaints."""
+    there, complaints = examples(page), []
+    for name in there.keys() ^ right.keys():
+        complaints.append(f"{name}: {'no numbers in paper_figures.py' if name in there else 'no such example in the page'}")
+    for name in there.keys() & right.keys():
+        complaint = compare_example(name, there[name], right[name])
+        complaints += [complaint] if complaint else []
+    return sum(len(numbers(text)) for text in there.values()), len(there), complaints
+
+
+def bytes_of(block):
+    return bytes.fromhex(" ".join(line.split("#")[0].replace(",", " ") for line in block.splitlines()))
+
+
+def program_output(program, data):
+    return subprocess.run([program], input=data, stdout=subprocess.PIPE, timeout=60).stdout
+
+
+def inputs(page, program):
+    """Each block of hex with the block of text after it: how many, and the complaints."""
+    blocks, complaints, count = BLOCK.findall(page), [], 0
+    for (kind, block), (next_kind, output) in zip(blocks, [*blocks[1:], ("", "")]):
+        if kind != "hex":
+            continue
+        count += 1
+        first = block.splitlines()[0]
+        if next_kind != "text":
+            complaints.append(f"no output after the hex that begins with {first}")
+            continue
+        data = bytes_of(block)
+        for name, printed in (("calculator", run(data)), ("program", program_output(program, data))):
+            if printed.decode() != output:
+                complaints.append(f"the hex that begins with {first}: the {name} prints something else")
+    return count, complaints
+
+
+def files(page):
+    """The example river in the page and in its own files."""
+    complaints = []
+    for kind, name in (("hex", "river.hex"), ("text", "expected.txt")):
+        if (kind, (ROOT / "examples/three-elements" / name).read_text()) not in BLOCK.findall(page):
+            complaints.append(f"METHOD.md does not have examples/three-elements/{name} as it stands")
+    return complaints
+
+
+def lines():
+    """Printed lines that the papers show: how many, and those that are not printed."""
+    complaints, count = [], 0
+    for page, form, expected in SHOWN:
+        printed = set(expected.read_text().splitlines())
+        shown = re.findall(form, page.read_text(), re.MULTILINE)
+        count += len(shown)
+        complaints += [f"{page}: {line!r} is not in {expected}" for line in shown if line not in printed]
+        complaints += [] if shown else [f"{page} shows no printed line"]
+    return count, complaints
+
+
+def main():
+    parser = argparse.ArgumentParser(description=__doc__, formatter_class=argparse.RawDescriptionHelpFormatter)
+    parser.add_argument("program", nargs="?", default=str(ROOT / "target/bin/cabinet"))
+    parser.add_argument("--show", metavar="NAME", help="print one example's numbers")
+    options = parser.parse_args()
+    if options.show:
+        print((worked() | sample_worked())[options.show]())
+        return 0
+    page = METHOD.read_text()
+    figure_count, example_count, complaints = figures(page, worked())
+    more_figures, more_examples, wrong_sample = figures((SAMPLE / "README.md").read_text(), sample_worked())
+    input_count, wrong_inputs = inputs(page, options.program)
+    line_count, wrong_lines = lines()
+    complaints += wrong_sample + wrong_inputs + files(page) + wrong_lines
+    for complaint in complaints:
+        print(f"FAILED {complaint}")
+    print(f"paper: {figure_count + more_figures} figures in {example_count + more_examples} examples, {input_count} inputs, {line_count} "
+          f"lines, {len(complaints)} failed")
+    return 1 if complaints else 0
+
+
+if __name__ == "__main__":
+    sys.exit(main())

@@ -1,0 +1,592 @@
+"""The figures of the papers' worked examples, worked out by the calculator.
+
+worked() gives for each example of docs/METHOD.md, and sample_worked() for that of examples/yubetsu-2001/README.md (headings "### Worked
+example: NAME"), its numbers as text in the page's order; words without a digit may be left out. What the calculator did on the way (each
+blend, each inflow) is noted while it works, so that a changed rule shows here.
+"""
+import csv
+import subprocess
+import sys
+from dataclasses import dataclass
+from fractions import Fraction
+from pathlib import Path
+from statistics import median
+
+from calculator import tried_figures
+from calculator.encode import record_bytes, table_bytes
+from calculator.fractions_run import ExactNumbers, FractionsRun, exact_weight
+from calculator.program import cut_records, cut_table, run
+from calculator.whole_numbers import BASIN, CEILING, GAP, RULES, SCALE, Element, Figures, Piece, Rules, State, decode_table, piece_for
+
+ROOT = Path(__file__).resolve().parent.parent
+SAMPLE_FOLDER = ROOT / "examples/yubetsu-2001"
+SAMPLE = SAMPLE_FOLDER / "cabinet.bin"
+
+
+def n(number):
+    """A whole number with commas, as the page writes it."""
+    return f"{number:,}".replace("-", "\u2212")
+
+
+def d(fraction, places=2):
+    """A fraction of 0 or more cut off after so many places."""
+    whole, rest = divmod(int(fraction * 10 ** places), 10 ** places)
+    return f"{whole:,}.{rest:0{places}}" if places else f"{whole:,}"
+
+
+# ---- What the calculator does on the way -----------------------------------------------------------------------------------------------
+
+
+@dataclass
+class Blend:
+    """One blend as it was asked for and answered."""
+    x: int
+    x_margin: int
+    y: int
+    y_margin: int
+    weight: int
+    weight_margin: int
+    value: int
+    margin: int
+
+    @property
+    def products(self):
+        return self.weight * self.x + (SCALE - self.weight) * self.y
+
+    @property
+    def quotient(self):
+        return d(Fraction(self.products, SCALE))
+
+    @property
+    def of_margins(self):
+        return self.weight * self.x_margin + (SCALE - self.weight) * self.y_margin
+
+    @property
+    def gap(self):
+        return abs(self.x - self.y)
+
+    @property
+    def of_weight(self):
+        return self.weight_margin * (self.gap + self.x_margin + self.y_margin)
+
+    def written(self):
+        return f"[({n(self.weight)} × {n(self.x)} + {n(SCALE - self.weight)} × {n(self.y)}) / S] = {n(self.value)}"
+
+    def margin_written(self):
+        parts = d(Fraction(self.of_margins, SCALE)), d(Fraction(self.of_weight, SCALE))
+        assert sum(int(part.replace(",", "").split(".")[0]) for part in parts) + 3 == self.margin
+        return f"[{parts[0]}] + [{parts[1]}] + 3 = {n(self.margin)}"
+
+
+@dataclass
+class Move:
+    """One element's move: its inflow, four blends (discharge, a, b, variance) and figures."""
+    inflow: Figures
+    blends: list
+    system_noise: int
+    figures: Figures
+
+
+def noting(rules):
+    """Rules of this class, with each move and each blend noted."""
+
+    class Noted(rules):
+        def __init__(self):
+            self.blends, self.moves = [], []
+
+        def blend(self, x, x_margin, y, y_margin, weight, weight_margin):
+            value, margin = super().blend(x, x_margin, y, y_margin, weight, weight_margin)
+            self.blends.append(Blend(x, x_margin, y, y_margin, weight, weight_margin, value, margin))
+            return value, margin
+
+        def move(self, element, weight, old, inflow):
+            before = len(self.blends)
+            figures = super().move(element, weight, old, inflow)
+            self.moves.append(Move(inflow, self.blends[before:], element.system_noise, figures))
+            return figures
+
+    return Noted
+
+
+Noted = noting(Rules)  # tests/mutants.py puts wrong rules here and in RULES
+
+
+# ---- The example river -----------------------------------------------------------------------------------------------------------------
+
+
+def river_bytes():
+    from_hex = (line.split("#")[0] for line in (ROOT / "examples/three-elements/river.hex").read_text().splitlines())
+    return bytes.fromhex(" ".join(from_hex))
+
+
+RIVER = river_bytes()
+TABLE = cut_table(RIVER)
+RECORDS = list(cut_records(RIVER, len(TABLE)))
+ELEMENTS = decode_table(TABLE).elements
+LENT = [0] * 36
+
+
+def after_steps(rules, count):
+    """The state after so many accepted steps of the example, and the run in fractions after the same."""
+    state, exact = RULES.start(TABLE, State()), FractionsRun(TABLE)
+    for record in [RECORDS[0], RECORDS[1], RECORDS[3]][:count]:
+        state = rules.step(TABLE, record, state)
+        exact.step(record)
+    return state, exact
+
+
+def rows(*kinds):
+    """A table's rows: each kind is a function from an element's place to its cell."""
+    return "\n".join(" | ".join(kind(place) for place in range(3)) for kind in kinds)
+
+
+def above(place):
+    return [higher for higher, element in enumerate(ELEMENTS) if element.down == place + 1]
+
+
+def sum_written(numbers, total):
+    return f"{' + '.join(map(n, numbers))} = {n(total)}"
+
+
+def moves_written(moves, given, rain_inflow, basin_variance):
+    """The table of a step or a lead. `given` are the figures that each element lets out; the two functions write a basin's inflow."""
+    def inflow(place):
+        taken = moves[place].inflow
+        if ELEMENTS[place].kind == BASIN:
+            return f"{rain_inflow(place)} = {n(taken.discharge)}, margin {taken.margin}"
+        return (f"{sum_written([given[higher].discharge for higher in above(place)], taken.discharge)}, margin "
+                f"{sum_written([given[higher].margin for higher in above(place)], taken.margin)}")
+
+    def inflow_variance(place):
+        taken = moves[place].inflow
+        if ELEMENTS[place].kind == BASIN:
+            return f"{basin_variance(place)}, margin {taken.variance_margin}"
+        return (f"{sum_written([given[higher].variance for higher in above(place)], taken.variance)}, margin "
+                f"{sum_written([given[higher].variance_margin for higher in above(place)], taken.variance_margin)}")
+
+    def part(which):
+        def cell(place):
+            blend = moves[place].blends[which]
+            return f"[{blend.quotient}] = {n(blend.value)}, margin {blend.margin_written()}"
+        return cell
+
+    def variance(place):
+        return f"[{moves[place].blends[3].quotient}] + {n(moves[place].system_noise)} = {n(moves[place].figures.variance)}"
+
+    return rows(inflow, inflow_variance, lambda place: moves[place].blends[0].written(),
+                lambda place: moves[place].blends[0].margin_written(), part(1), part(2), variance,
+                lambda place: moves[place].blends[3].margin_written())
+
+
+def heads_of_columns():
+    return " ".join(f"element {place + 1}" for place in range(3))
+
+
+# ---- The examples, in the page's order ---------------------------------------------------------------------------------------------------
+
+
+def the_weight():
+    h, found = SCALE, []
+    for m in range(12, 0, -1):
+        h = SCALE - 60 * h // (120 * m)
+        found.append((m, h))
+    assert h == RULES.weight(60, 120)
+    pairs = "\n".join(f"{left[0]} | {n(left[1])} | {right[0]} | {n(right[1])}" for left, right in zip(found[:6], found[6:]))
+    first = 60 * SCALE // (120 * 12)
+    return (f"T = 60, lag = 120\n{pairs}\n{n(SCALE)} − [60 × {n(SCALE)} / (120 × 12)] = {n(SCALE)} − {n(first)}\n"
+            f"{n(h)} {d(SCALE * exact_weight(60, 120))}")
+
+
+ONE = Element(kind=2, down=0, lag=120, area=0, runoff=0, first_discharge=0, first_variance=0, system_noise=50, rain_noise=0)
+OLD, INFLOW = Figures(2_000_000, 5, 400, 4), Figures(3_500_000, 1, 100, 2)
+NUMBERS, F = ExactNumbers(), exact_weight(60, 120)
+EXACT = NUMBERS.mix(F, OLD.discharge, INFLOW.discharge), NUMBERS.square_mix(F, OLD.variance, INFLOW.variance) + ONE.system_noise
+
+
+def value_products(blend):
+    """A blend's value with its products written out."""
+    return f"{n(blend.weight)} × {n(blend.x)} + {n(SCALE - blend.weight)} × {n(blend.y)} = {n(blend.products)} gives {n(blend.value)}"
+
+
+def margin_products(blend):
+    of_margins, of_weight = blend.of_margins // SCALE, blend.of_weight // SCALE
+    assert of_margins + of_weight + 3 == blend.margin
+    return (f"{n(blend.weight)} × {n(blend.x_margin)} + {n(SCALE - blend.weight)} × {n(blend.y_margin)} = {n(blend.of_margins)} gives "
+            f"{n(of_margins)}; {n(blend.weight_margin)} × ({n(blend.gap)} + {n(blend.x_margin)} + {n(blend.y_margin)}) = "
+            f"{n(blend.of_weight)} gives {n(of_weight)}; plus 3: {n(blend.margin)}")
+
+
+def one_move():
+    rules = Noted()
+    weight = rules.weight(60, 120)
+    new = rules.move(ONE, weight, OLD, INFLOW)
+    discharge, a, b, variance = rules.blends
+    return f"""{n(weight)} {n(SCALE - weight)} {n(OLD.discharge)} {OLD.margin} {OLD.variance} {OLD.variance_margin}
+    {n(INFLOW.discharge)} {INFLOW.margin} {INFLOW.variance} {INFLOW.variance_margin} {ONE.system_noise}
+    {value_products(discharge)} {margin_products(discharge)} {d(EXACT[0], 4)}
+    {value_products(a)} {margin_products(a)}
+    {value_products(b)} {margin_products(b)}
+    {value_products(variance)} {new.variance} {margin_products(variance)} {d(EXACT[1], 4)}
+    {n(new.discharge)} {new.margin} {new.variance} {new.variance_margin}"""
+
+
+def reading_written(rules, before, z, noise, after, exact=None):
+    """A correction as the page writes it: K, S − K, k, the blend, the variance and its margin; `exact` are the figures in fractions."""
+    total, blend = before.variance + noise, rules.blends[-1]
+    gain = SCALE * before.variance // total
+    assert blend.weight == SCALE - gain and blend.y == z
+    x, v = (d(exact[0], 3) + " " + d(abs(exact[0] - after.discharge), 1), d(exact[1], 4)) if exact else ("", "")
+    return f"""K = [{n(SCALE)} × {before.variance} / {total}] = {n(gain)}; S − K = {n(SCALE - gain)}
+    k = [{n(SCALE)} × {before.variance_margin} / {total}] + 2 = {n(blend.weight_margin)}
+    {value_products(blend)} {margin_products(blend)} {x}
+    [{before.variance} × {noise} / {total}] = {after.variance};
+    [{before.variance_margin} × {noise} / {total}] + 2 = {after.variance_margin} {v}"""
+
+
+def one_reading():
+    rules, piece = Noted(), Piece(30_001, 20_000, -500)
+    before = rules.move(ONE, rules.weight(60, 120), OLD, INFLOW)
+    z = rules.curve(piece, 1_400)
+    after = rules.correct(before, z, 200)
+    return f"""P = {before.variance}, D = {before.variance_margin} {n(piece.a)} {n(piece.b)} 200 {n(1_400)}
+    {n(1_400)} − {n(-piece.b)} = {n(1_400 + piece.b)}; {n(piece.a)} × {n(1_400 + piece.b)}² / {n(1_000)} = {n(z)}, margin 1
+    {reading_written(rules, before, z, 200, after, NUMBERS.corrected(*EXACT, Fraction(z), 200))}
+    {n(after.discharge)} {n(after.margin)} {after.variance} {after.variance_margin}"""
+
+
+def table_told():
+    """The example river's table and first record in words."""
+    table = decode_table(TABLE)
+    one, two, three = table.elements
+    gauge, (rains, stages) = table.gauges[0], (RECORDS[0][3:7], RECORDS[0][7:9])
+    piece = gauge.pieces[0]
+    return f"""T = {table.step_minutes}
+    element 1 {one.down} {one.lag} {one.area // 100} {n(one.area)} {one.runoff} {n(one.first_discharge)} {one.first_variance}
+    {one.system_noise} {n(one.rain_noise)}
+    element 2 {two.down} {two.lag} {two.area // 100} {n(two.area)} {n(two.runoff)} {two.rain_noise} 0
+    element 3 {three.down} {three.lag} {n(three.first_discharge)} {three.first_variance} {three.system_noise}
+    {n(piece.a)} {n(piece.b)} {gauge.noise}
+    {rains[1]} {rains[3]} {rains[1] // 10} {rains[3] // 10} {n(int.from_bytes(stages, "big"))}"""
+
+
+def figures_written(figures):
+    return f"{n(figures.discharge)} {n(figures.margin)} {n(figures.variance)} {n(figures.variance_margin)}"
+
+
+def one_step():
+    rules = Noted()
+    state, exact = after_steps(rules, 1)
+
+    def inflow(place):
+        return f"[5 × {state.rains[place][0]} × {n(ELEMENTS[place].area)} × {n(ELEMENTS[place].runoff)} / 18]"
+
+    after = state.figures
+    z = RULES.curve(piece_for(decode_table(TABLE).gauges[0], 1_400), 1_400)
+    final = []
+    for place, (x, v) in enumerate(exact.figures):
+        rains = ", ".join(map(str, state.rains[place])) if ELEMENTS[place].kind == BASIN else ""
+        final.append(f"element {place + 1} {figures_written(after[place])} {rains} {d(x, 3)} {d(v, 3)}")
+    return f"""{table_told()}
+    60 {n(rules.weight(60, 60))} 120 {n(rules.weight(60, 120))}
+    {heads_of_columns()}
+    {moves_written(rules.moves, after, inflow, lambda place: n(rules.moves[place].inflow.variance))}
+    element 3 {n(z)} {reading_written(rules, rules.moves[2].figures, z, 200, after[2])}
+    {" ".join(final)} {state.steps}"""
+
+
+def one_lead():
+    state, _ = after_steps(RULES, 1)
+    rules = Noted()
+    _, answer = rules.forecast(TABLE, state, LENT)
+    moves, second = rules.moves[:3], rules.moves[3:]
+    given = [move.figures for move in moves]
+
+    def inflow(place):
+        return f"[5 × {state.rains[place][0]} × {n(ELEMENTS[place].area)} × {n(ELEMENTS[place].runoff)} / (18 × 1)]"
+
+    def variance(lead, moved):
+        return lambda place: f"{lead} × {n(ELEMENTS[place].rain_noise)} = {n(moved[place].inflow.variance)}"
+
+    at_lead_2 = [Figures(*answer[12 * place + 8:12 * place + 12]) for place in range(3)]
+    return f"""lead 1 c = 1 {state.rains[0][0]} {state.rains[1][0]}
+    {heads_of_columns()}
+    {moves_written(moves, given, inflow, variance(1, moves))}
+    lead 2 {variance(2, second)(0)} {variance(2, second)(1)}
+    {" ".join(f"element {place + 1} {figures_written(figures)}" for place, figures in enumerate(at_lead_2))}
+    element 3 {n(state.figures[2].margin)} {n(given[2].margin)} {n(at_lead_2[2].margin)}"""
+
+
+def later_rains():
+    """The mean of the last rains after the second and the third accepted step."""
+    found = []
+    for count in (2, 3):
+        state, _ = after_steps(RULES, count)
+        assert state.steps == count
+        for place in (0, 1):
+            element, rains = ELEMENTS[place], state.rains[place][:count]
+            inflow = RULES.lead_rain_inflow(element, state.rains[place], count, 1)
+            found.append(f"element {place + 1} {' + '.join(map(str, rains))} = {sum(rains)} [5 × {sum(rains)} × {n(element.area)} × "
+                         f"{n(element.runoff)} / (18 × {count})] = {n(inflow.discharge)}")
+    return f"c = 2 {found[0]} {found[1]} c = 3 {found[2]} {found[3]}"
+
+
+def weight_errors():
+    """What bounds the error of h after each round: below 1, and the error before it divided by m."""
+    error, found = Fraction(0), []
+    for m in range(12, 0, -1):
+        error = 1 + error / m
+        found.append((m, d(error, 4)))
+    assert error < 3
+    return "1\n" + "\n".join(f"{left[0]} {left[1]} {right[0]} {right[1]}" for left, right in zip(found[:6], found[6:]))
+
+
+def sample_margins():
+    """The discharge margins of the sample river, with its readings and with gaps in their place."""
+    data = SAMPLE.read_bytes()
+    table = decode_table(cut_table(data))
+    records = list(cut_records(data, len(cut_table(data))))
+    silent = b"".join(record[:-2 * len(table.gauges)] + GAP.to_bytes(2, "big") * len(table.gauges) for record in records)
+    found = []
+    for given in (data, cut_table(data) + silent):
+        margins = [int(line.split()[4]) for line in run(given).splitlines()]
+        found.append(f"{n(int(median(margins)))} {n(max(margins))}")
+    return f"2001 {len(records)} {len(table.elements)} 0 {table.leads} {n(len(margins))} {' '.join(found)}"
+
+
+def root(number, places=1):
+    """The square root of a whole number of 0.001 (m³/s)², in m³/s, rounded to the nearest."""
+    return f"{(number / 1_000) ** 0.5:.{places}f}"
+
+
+def noises():
+    element = ELEMENTS[0]
+    rain = RULES.step_rain_inflow(element, 20).discharge
+    G = (rain // 10 ** 6) ** 2 * 1_000
+    ahead = RULES.lead_rain_inflow(Element(**vars(element) | dict(rain_noise=G)), (0, 0, 0), 3, 3).variance
+    squares = " ".join(f"{doubt} {doubt} × {doubt} × {n(1_000)} = {n(int(Fraction(doubt) ** 2 * 1_000))}" for doubt in ("0.5", "1", "5"))
+    return f"""{squares}
+    {element.area // 100} {element.runoff} 2 2 [5 × 20 × {n(element.area)} × {element.runoff} / 18] = {n(rain)} {rain // 10 ** 6}
+    {rain // 10 ** 6} × {rain // 10 ** 6} × {n(1_000)} = {n(G)} lead 3 3 × {n(G)} = {n(ahead)} {root(ahead)}
+    {n(703_935)} {d(Fraction(703_935, 1_000), 3)} {root(703_935)}"""
+
+
+def rain_and_curve():
+    """How a rain depth, a stage and a curve become numbers of the table and the record; the curve is the sample river's first."""
+    first, second = decode_table(cut_table(SAMPLE.read_bytes())).gauges[0].pieces[:2]
+    z = RULES.curve(first, 1_000)
+    depths = []
+    for T, depth in ((60, "12.3"), (15, "3.1")):
+        rate = Fraction(depth) * 60 / T
+        depths.append(f"T = {T} {depth} {depth} × 60 / {T} = {d(rate, 1)} {int(rate * 10)}")
+    written = first.b % 65_536
+    a, foot = d(Fraction(first.a, 1_000)), Fraction(173_000 - first.b, 1_000)
+    return f"""{" ".join(depths)}
+    173.000 174.00 1.000 {n(1_000)}
+    {a} {d(foot)} {n(first.a)} {n(173_000)} − {n(173_000 - first.b)} = {n(first.b)} {n(65_536)} − {-first.b} = {n(written)}
+    hex {written:X} {n(1_000)} [{n(first.a)} × {1_000 + first.b}² / {n(1_000)}] = {n(z)} {a} × {d(Fraction(1_000 + first.b, 1_000))}² =
+    {d(Fraction(z, 10 ** 6), 6)}
+    175.3252 {d(Fraction(second.a, 1_000))} {d(Fraction(173_000 - second.b, 1_000))} {n(2_325)}.2 {n(first.top)} {n(second.a)}
+    {n(second.b)} 175.3250 {n(2_325)}"""
+
+
+def highest_rain(area, f):
+    """The highest rain in tenths of mm/h that a step on one basin takes, and its inflow."""
+    basin = Element(1, 0, 60, area, f, 0, 0, 0, 0)
+    found = max(rain for rain in range(3_001) if RULES.step_rain_inflow(basin, rain).discharge <= CEILING)
+    table = table_bytes(dict(T=60, L=1, elements=[dict(kind=1, lag=60, area=area, f=f)], gauges=[]))
+    for rain in {found, min(found + 1, 3_000)}:  # the step itself says so
+        assert (run(table + record_bytes((rain,), ())) == b"0 refused 16\n") == (rain > found)
+    return found, RULES.step_rain_inflow(basin, found).discharge
+
+
+def basin_sizes():
+    lines = []
+    for area, f in ((4_800, 1_000), (14_400, 1_000), (28_031, 780), (50_000, 600), (100_000, 800), (400_000, 1_000)):
+        rain, inflow = highest_rain(area, f)
+        size = n(area // 100) if area % 100 == 0 else d(Fraction(area, 100))
+        lines.append(f"{size} | {n(f)} | {d(Fraction(rain, 10), 1)} | {n(inflow)}")
+    whole, quarter = (RULES.step_rain_inflow(Element(1, 0, 60, area, 800, 0, 0, 0, 0), 200).discharge for area in (100_000, 25_000))
+    assert whole > CEILING
+    first, second = (RULES.step_rain_inflow(element, 1_000).discharge for element in ELEMENTS[:2])
+    table = "\n".join(lines)
+    return f"""300 {table}
+    {n(1_000)} 800 20 {n(whole)} 16 250 {d(Fraction(highest_rain(25_000, 800)[0], 10), 1)} 20 {n(quarter)}
+    100 {n(first)} {n(second)} 3 {n(first + second)}"""
+
+
+def variance_sum():
+    """The sum of the rule on variances for the example river; its printed variances must stay below it."""
+    table = decode_table(TABLE)
+    T, L = table.step_minutes, table.leads
+    grown = [Fraction(element.system_noise * (element.lag + T), T) for element in ELEMENTS]
+    rain = [L * element.rain_noise for element in ELEMENTS if element.kind == BASIN]
+    total = int(sum(grown) + sum(element.first_variance for element in ELEMENTS) + sum(rain))
+    assert all(int(line.split()[5]) <= total for line in run(RIVER).splitlines() if b"refused" not in line)
+    written = ", ".join(f"{element.system_noise} × ({element.lag} / {T} + 1) = {n(int(each))}" for element, each in zip(ELEMENTS, grown))
+    ahead = ", ".join(f"{L} × {n(element.rain_noise)} = {n(L * element.rain_noise)}" for element in ELEMENTS if element.kind == BASIN)
+    return f"L = {L} 1 {written} {', '.join(str(element.first_variance) for element in ELEMENTS)} {ahead} {n(total)}"
+
+
+def growing_margin():
+    """A gauge that reads what the river has, and a margin that grows all the same; with some W it does not."""
+    def margins(W, steps):
+        table = table_bytes(dict(T=60, L=1, elements=[dict(kind=2, lag=120, W=W)], gauges=[dict(element=1, R=1, pieces=[(30_001, 1, 0)])]))
+        lines = [line.split() for line in run(table + record_bytes((), (0,)) * steps).decode().splitlines()]
+        return [int(line[4]) for line in lines if line[1] != "refused" and line[2] == "0"], [line for line in lines if line[1] == "refused"]
+
+    grown, refused = margins(0, 100)
+    held, none = margins(20, 1_000)
+    assert len(grown) == 94 and refused == [["94", "refused", "16"]] * 6 and not none and held[93] == held[999]
+    return f"""T = 60 120 0 W = 0 a = 1 b = 0 R = 1 0 0 1 2 3 4 {" ".join(map(str, grown[:4]))} 51 {n(grown[50])} 94 {n(grown[93])} 16
+    W = 20 {held[93]} 94 {n(1_000)}"""
+
+
+def step_that_stands():
+    """One reach whose step is accepted while its first lead, and the next step, pass C."""
+    reach = Element(2, 0, 60_000, 0, 0, 0, 3_850_000_000, 100_000_000, 0)
+    noted, old = Noted(), Figures(0, 0, reach.first_variance, 0)
+    weight = noted.weight(1, reach.lag)
+    first = noted.move(reach, weight, old, Figures(0, 0, 0, 0))
+    a = weight * first.variance // SCALE
+    second = weight * a // SCALE + reach.system_noise
+    assert first.variance <= CEILING < second
+    return f"""T = 1 {n(reach.lag)} {n(reach.first_variance)} {n(reach.system_noise)}
+    {n(first.variance)} 0 1 {n(second)} {n(second)} 1"""
+
+
+def lost_byte():
+    """The example river without the last byte of its first record."""
+    at = len(TABLE) + len(RECORDS[0]) - 1
+    data = RIVER[:at] + RIVER[at + 1:]
+    first, second = cut_records(data, len(TABLE))
+    right, wrong = after_steps(RULES, 1)[0].figures[2], RULES.step(TABLE, first, RULES.start(TABLE, State())).figures[2]
+    last = run(data).splitlines()[-1].decode()
+    assert len(second) < 2 + int.from_bytes(second[:2], "big")  # it waits for more
+    return f"""{first[-2:].hex(" ").upper()} {n(int.from_bytes(first[-2:], "big"))} {n(1_400)} {n(wrong.discharge)} {n(wrong.margin)} 3
+    {n(right.discharge)} {n(right.margin)} {second[:2].hex(" ").upper()} {n(int.from_bytes(second[:2], "big"))} {last}"""
+
+
+def failing_rain_line():
+    element, found = ELEMENTS[0], []
+    steady = RULES.lead_rain_inflow(element, (120, 120, 120), 9, 1).discharge // 10 ** 6
+    for zeros in (1, 2, 3):
+        rains = (0,) * zeros + (120,) * (3 - zeros)
+        tenths, inflow = sum(rains) // 3, RULES.lead_rain_inflow(element, rains, 9, 1).discharge // 10 ** 6
+        found.append((f"({' + '.join(map(str, rains))}) / 3 = {tenths}" if zeros < 3 else str(tenths)) + f" {inflow}")
+    return f"{element.area // 100} {element.runoff} 12 {steady} 0 {' '.join(found)} 12 {steady}"
+
+
+def figures_to_try():
+    """Document 01's tried figures; tried_figures.check() asks them of the calculator once more."""
+    tried_figures.check()
+    rules, piece = RULES, Piece(30_001, 20_000, -500)
+    high = rules.correct(Figures(1_000_000, 0, 300, 0), 2_000_000, 100)
+    low = rules.correct(Figures(7, 0, 0, 0), 9, 1)
+    value, margin = rules.blend(3, 0, 4, 0, 500_000_000, 0)
+    return f"""60 60 {n(rules.weight(60, 60))} 1 {n(60_000)} {n(rules.weight(1, 60_000))}
+    3 4 0 {n(500_000_000)} 0 {value} {margin}
+    300 0 100 {n(1_000_000)} 0 {n(2_000_000)} {n(SCALE * 300 // 400)} {n(high.discharge)} {high.margin} {high.variance}
+    {high.variance_margin}
+    0 0 1 7 0 9 {low.discharge} {low.margin} {low.variance} {low.variance_margin}
+    {n(piece.a)} {n(piece.b)} {n(1_500)} {n(rules.curve(piece, 1_500))} 500 {rules.curve(piece, 500)} 499
+    {tried_figures.refusal(rules.curve, piece, 499)}
+    {n(1_000)} {n(30_001)} 999 1 {n(1_000)} 2
+    1 1 {refused_with(down=1)} {n(3_000)} {n(3_001)} {refused_with(rain=3_001)} {n(30_000)} {n(30_001)} {refused_with(stage=30_001)}
+    36 60 60 {n(1_000)} {n(1_000)} 100"""
+
+
+def refused_with(down=0, rain=3_000, stage=30_000):
+    """What the program prints last for one small basin and one gauge: the refusal's number, or nothing where the record passes."""
+    elements = [dict(kind=1, down=down, lag=60, area=10, f=1_000)]
+    table = dict(T=60, L=1, elements=elements, gauges=[dict(element=1, R=1_000, pieces=[(30_001, 1, 0)])])
+    last = run(table_bytes(table) + record_bytes((rain,), (stage,))).splitlines()[-1].decode()
+    return last.split()[2] if "refused" in last else ""
+
+
+def worked():
+    """By name of the example: its numbers as text, in the page's order."""
+    return {"the weight": the_weight, "one move": one_move, "one reading": one_reading, "one step of a river": one_step,
+            "one lead": one_lead, "the mean of the last rains": later_rains, "the weight's 3": weight_errors,
+            "margins of the sample river": sample_margins, "noise from a doubt": noises, "rain, stage and curve": rain_and_curve,
+            "the highest rain of a basin": basin_sizes, "the sum of variances": variance_sum,
+            "a margin that grows from reading to reading": growing_margin,
+            "a step that stands though its forecast is refused": step_that_stands, "a rain line that fails": failing_rain_line,
+            "a byte lost on the line": lost_byte, "figures to try": figures_to_try}
+
+
+# ---- The sample river ----------------------------------------------------------------------------------------------------------------
+
+
+def sample_rows(name):
+    with open(SAMPLE_FOLDER / name, newline="") as file:
+        return list(csv.DictReader(file))
+
+
+def thousandths(grains):
+    """Grains as m³/s to the nearest 0.001."""
+    return d(Fraction((grains + 500) // 1_000, 1_000), 3)
+
+
+class Kaisei:
+    """What the sample river prints for its outlet, and what was observed there; hours count from 1."""
+
+    def __init__(self, data):
+        self.table, self.stages = decode_table(cut_table(data)), sample_rows("stage.csv")
+        self.records = list(cut_records(data, len(cut_table(data))))
+        lines = (list(map(int, line.split())) for line in run(data).splitlines())
+        self.discharge = {(hour, lead): discharge for hour, element, lead, discharge, *_ in lines if element == len(self.table.elements)}
+
+    def observed(self, hour):
+        stage = int.from_bytes(self.records[hour - 1][-2:], "big")
+        return "gap" if stage == GAP else thousandths(RULES.curve(piece_for(self.table.gauges[-1], stage), stage))
+
+    def rows(self, hour):
+        """The hour's forecasts, and what was observed one, two and three hours later."""
+        given = self.stages[hour - 1]
+        day, time = given["datetime"].split("T")
+        forecasts = " ".join(thousandths(self.discharge[hour, lead]) for lead in range(4))
+        return f"""{hour} {int(day[-2:])} {time} {given["kaisei_m"]} {self.observed(hour)} {forecasts}
+        {" ".join(self.observed(hour + lead) for lead in (1, 2, 3))}"""
+
+
+def kaisei():
+    river = Kaisei(SAMPLE.read_bytes())
+    curve = [row for row in sample_rows("rating.csv") if (row["point"], row["year"]) == ("Kaisei", "2001")]
+    stage = Fraction(river.stages[16 - 1]["kaisei_m"])
+    piece = next(row for row in curve if not row["stage_to_m"] or stage < Fraction(row["stage_to_m"]))
+    by_2001 = Fraction(piece["a_m3s_per_m2"]) * (stage - Fraction(piece["h0_m"])) ** 2
+    before = " ".join(thousandths(river.discharge[35 - lead, lead]) for lead in (1, 2, 3))
+    return f"""0 1 2 3 {" ".join(river.rows(hour) for hour in (1, 16, 35, 36))}
+    35 36 35 {before}
+    16 {thousandths(river.discharge[15, 1])} {thousandths(river.discharge[16, 0])} 2001 {d(by_2001, 0)}"""
+
+
+def varied(**changes):
+    """The sample river's input made with other choices."""
+    folder = ROOT / "target/variation"
+    folder.mkdir(parents=True, exist_ok=True)
+    rows = [row | dict(value=changes.get(row["choice"], row["value"])) for row in sample_rows("choices.csv")]
+    with open(folder / "choices.csv", "w", newline="") as file:
+        writer = csv.DictWriter(file, rows[0].keys())
+        writer.writeheader()
+        writer.writerows(rows)
+    command = [sys.executable, SAMPLE_FOLDER / "make.py", "--choices", folder / "choices.csv", "--out", folder]
+    subprocess.run(command, check=True, stdout=subprocess.DEVNULL)
+    return (folder / "cabinet.bin").read_bytes()
+
+
+def variations():
+    def at_36(wanted, **changes):
+        river = Kaisei(varied(**changes))
+        return " ".join(thousandths(river.discharge[36, lead]) for lead in wanted)
+
+    first = range(4)
+    assert at_36(first, leads="6") == at_36(first)
+    return f"""36 0 1 2 3 {at_36(first)}
+    0.39 0.2 {at_36(first, f_upper="0.39", f_lower="0.2")}
+    2001 {at_36(first, curve_year="2001")}
+    6 {at_36((4, 5, 6), leads="6")}"""
+
+
+def sample_worked():
+    return {"Kaisei at the first hour, the first reading and the peak": kaisei, "three variations": variations}
