@@ -6,8 +6,8 @@
   figures   every number of each example "### Worked example: NAME" of docs/METHOD.md and examples/yubetsu-2001/README.md is, in order, what
             paper_figures.py works out
   inputs    each block of hex there, given to the calculator and to the built program, prints the block of text after it
-  files     the large one of these blocks is examples/three-elements/river.hex, and what it prints expected.txt there
-  lines     each printed line that README.md and the examples' own show stands in the expected output of the sample river
+  files     one of these blocks is examples/three-elements/river.hex, and what it prints expected.txt there
+  lines     each printed line that README.md, examples/yubetsu-2001/README.md and examples/c/README.md show stands in the expected output
 
 --show prints the numbers of one example as the calculator has them, to write the page by. The program is target/bin/cabinet unless
 another path is given. The last line is "paper: N figures in M examples, K inputs, L lines, F failed".
@@ -19,7 +19,7 @@ import sys
 from pathlib import Path
 
 from calculator.program import run
-from paper_figures import sample_worked, worked
+from paper_figures import bytes_of_hex, sample_worked, worked
 
 ROOT = Path(__file__).resolve().parent.parent
 METHOD, SAMPLE = ROOT / "docs/METHOD.md", ROOT / "examples/yubetsu-2001"
@@ -34,14 +34,14 @@ SHOWN = ((ROOT / "README.md", FIGURE_LINE, SAMPLE / "expected.txt"), (SAMPLE / "
 
 
 def numbers(text):
-    """All numbers of a text in order, without their commas; blocks of hex and of output are not looked at."""
-    return [found.replace(",", "") for found in NUMBER.findall(BLOCK.sub("", text))]
+    """All numbers of a text in order, without their commas."""
+    return [found.replace(",", "") for found in NUMBER.findall(text)]
 
 
 def examples(page):
-    """The text of each worked example by its name."""
+    """The text of each worked example by its name, without blocks of hex and of output."""
     found = {}
-    for part in re.split(r"^(?=#{1,3} )", page, flags=re.MULTILINE):
+    for part in re.split(r"^(?=#{1,3} )", BLOCK.sub("", page), flags=re.MULTILINE):
         if part.startswith(HEADING):
             name, _, text = part[len(HEADING):].partition("\n")
             found[name] = text
@@ -74,10 +74,6 @@ def figures(page, right):
     return sum(len(numbers(text)) for text in there.values()), len(there), complaints
 
 
-def bytes_of(block):
-    return bytes.fromhex(" ".join(line.split("#")[0].replace(",", " ") for line in block.splitlines()))
-
-
 def program_output(program, data):
     return subprocess.run([program], input=data, stdout=subprocess.PIPE, timeout=60).stdout
 
@@ -93,7 +89,7 @@ def inputs(page, program):
         if next_kind != "text":
             complaints.append(f"no output after the hex that begins with {first}")
             continue
-        data = bytes_of(block)
+        data = bytes_of_hex(block)
         for name, printed in (("calculator", run(data)), ("program", program_output(program, data))):
             if printed.decode() != output:
                 complaints.append(f"the hex that begins with {first}: the {name} prints something else")

@@ -114,12 +114,12 @@ Noted = noting(Rules)  # tests/mutants.py puts wrong rules here and in RULES
 # ---- The example river -----------------------------------------------------------------------------------------------------------------
 
 
-def river_bytes():
-    from_hex = (line.split("#")[0] for line in (ROOT / "examples/three-elements/river.hex").read_text().splitlines())
-    return bytes.fromhex(" ".join(from_hex))
+def bytes_of_hex(text):
+    """The bytes of hex digits with comments."""
+    return bytes.fromhex(" ".join(line.split("#")[0] for line in text.splitlines()))
 
 
-RIVER = river_bytes()
+RIVER = bytes_of_hex((ROOT / "examples/three-elements/river.hex").read_text())
 TABLE = cut_table(RIVER)
 RECORDS = list(cut_records(RIVER, len(TABLE)))
 ELEMENTS = decode_table(TABLE).elements
@@ -410,7 +410,7 @@ def basin_sizes():
     first, second = (RULES.step_rain_inflow(element, 1_000).discharge for element in ELEMENTS[:2])
     table = "\n".join(lines)
     return f"""300 {table}
-    {n(1_000)} 800 20 {n(whole)} 16 250 {d(Fraction(highest_rain(25_000, 800)[0], 10), 1)} 20 {n(quarter)}
+    {n(1_000)} 800 20 {n(whole)} 16 250 {d(Fraction(highest_rain(25_000, 800)[0], 10), 1)} 20 {n(quarter)} {n(whole)}
     100 {n(first)} {n(second)} 3 {n(first + second)}"""
 
 
@@ -429,16 +429,20 @@ def variance_sum():
 
 def growing_margin():
     """A gauge that reads what the river has, and a margin that grows all the same; with some W it does not."""
-    def margins(W, steps):
-        table = table_bytes(dict(T=60, L=1, elements=[dict(kind=2, lag=120, W=W)], gauges=[dict(element=1, R=1, pieces=[(30_001, 1, 0)])]))
-        lines = [line.split() for line in run(table + record_bytes((), (0,)) * steps).decode().splitlines()]
+    def margins(W, lag, R, a, stages):
+        gauges = [dict(element=1, R=R, pieces=[(30_001, a, 0)])]
+        table = table_bytes(dict(T=60, L=1, elements=[dict(kind=2, lag=lag, W=W)], gauges=gauges))
+        lines = [line.split() for line in run(table + b"".join(record_bytes((), (stage,)) for stage in stages)).decode().splitlines()]
         return [int(line[4]) for line in lines if line[1] != "refused" and line[2] == "0"], [line for line in lines if line[1] == "refused"]
 
-    grown, refused = margins(0, 100)
-    held, none = margins(20, 1_000)
+    grown, refused = margins(0, 120, 1, 1, [0] * 100)
+    held, none = margins(20, 120, 1, 1, [0] * 1_000)
     assert len(grown) == 94 and refused == [["94", "refused", "16"]] * 6 and not none and held[93] == held[999]
+    assert RULES.curve(Piece(30_001, 1_000_000, 0), 1_000) == 1_000 * 10 ** 6  # grains
+    far = [f"{d(Fraction(margins(W, 1_200, 1_000, 1_000_000, [0, 1_000] * 200)[0][-1], 10 ** 6), 6)} {n(W)}" for W in (20, 100, 1_000)]
     return f"""T = 60 120 0 W = 0 a = 1 b = 0 R = 1 0 0 1 2 3 4 {" ".join(map(str, grown[:4]))} 51 {n(grown[50])} 94 {n(grown[93])} 16
-    W = 20 {held[93]} 94 {n(1_000)}"""
+    W = 20 {held[93]} 94 {n(1_000)}
+    T = 60 {n(1_200)} 0 {n(1_000_000)} 0 {n(1_000)} 0 {n(1_000)} 400 {" ".join(far)}"""
 
 
 def step_that_stands():
