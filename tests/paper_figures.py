@@ -515,7 +515,7 @@ def worked():
             "the highest rain of a basin": basin_sizes, "the sum of variances": variance_sum,
             "a margin that grows from reading to reading": growing_margin,
             "a step that stands though its forecast is refused": step_that_stands, "a rain line that fails": failing_rain_line,
-            "a byte lost on the line": lost_byte, "figures to try": figures_to_try}
+            "a byte lost on the line": lost_byte, "a new table in the middle of an event": new_table, "figures to try": figures_to_try}
 
 
 # ---- The sample river ----------------------------------------------------------------------------------------------------------------
@@ -590,6 +590,27 @@ def variations():
     0.39 0.2 {at_36(first, f_upper="0.39", f_lower="0.2")}
     2001 {at_36(first, curve_year="2001")}
     6 {at_36((4, 5, 6), leads="6")}"""
+
+
+def new_table():
+    """The sample river begun anew in the flood: from the figures after step 7 with records 8 to 10, and after step 9 with 10 alone."""
+    data, last = SAMPLE.read_bytes(), 10
+    table, records = cut_table(data), list(cut_records(data, len(cut_table(data))))
+    lines = [tuple(map(int, line.split())) for line in run(data).splitlines()]
+
+    def last_lines(step):
+        begun = bytearray(table)
+        for count, element, lead, discharge, _, variance, _ in lines:
+            if (count, lead) == (step, 0):
+                at = 10 + 26 * (element - 1) + 10  # the two first values
+                begun[at:at + 8] = discharge.to_bytes(4, "big") + variance.to_bytes(4, "big")
+        again = [tuple(map(int, line.split())) for line in run(bytes(begun) + b"".join(records[step:last])).splitlines()]
+        return [line for line in again if line[0] == last - step]
+
+    right, good, poor = [line for line in lines if line[0] == last], last_lines(7), last_lines(9)
+    same = sum((line[3], line[5]) == (there[3], there[5]) for line, there in zip(good, right))
+    assert right[-1][1:3] == (23, 3)
+    return f"0 7 8 9 10 10 {same} {len(right)} 0 9 10 3 {thousandths(poor[-1][3])} {thousandths(right[-1][3])}"
 
 
 def sample_worked():
