@@ -7,7 +7,7 @@
             paper_figures.py works out
   inputs    each block of hex there, given to the calculator and to the built program, prints the block of text after it
   files     one of these blocks is examples/three-elements/river.hex, and what it prints expected.txt there
-  lines     each printed line that README.md, examples/yubetsu-2001/README.md and examples/c/README.md show stands in the expected output
+  lines     each printed line that these pages, README.md and examples/c/README.md show stands in an expected output
 
 --show prints the numbers of one example as the calculator has them, to write the page by. The program is target/bin/cabinet unless
 another path is given. The last line is "paper: N figures in M examples, K inputs, L lines, F failed".
@@ -27,10 +27,10 @@ HEADING = "### Worked example: "
 # A word of four hex digits with a letter and a figure, or a number.
 NUMBER = re.compile(r"\b(?=[0-9A-F]{4}\b)(?=\w*[A-F])(?=\w*[0-9])\w+|\u2212?[0-9]+(?:,[0-9]{3}(?![0-9]))*(?:\.[0-9]+)?")
 BLOCK = re.compile(r"^```(\w+)\n(.*?)^```$", re.MULTILINE | re.DOTALL)
-# Where printed lines are shown, their form, and the file in which each must stand.
+# Where printed lines are shown, their form, and the file in which each must stand (of METHOD.md its own blocks of output).
 FIGURE_LINE, OUTLET_LINE = r"^    ([0-9]+(?: [0-9]+){6})$", r"^    (step [0-9]+: .*)$"
 SHOWN = ((ROOT / "README.md", FIGURE_LINE, SAMPLE / "expected.txt"), (SAMPLE / "README.md", FIGURE_LINE, SAMPLE / "expected.txt"),
-         (ROOT / "examples/c/README.md", OUTLET_LINE, ROOT / "examples/c/expected.txt"))
+         (ROOT / "examples/c/README.md", OUTLET_LINE, ROOT / "examples/c/expected.txt"), (METHOD, FIGURE_LINE, METHOD))
 
 
 def numbers(text):

@@ -144,26 +144,30 @@ def above(place):
     return [higher for higher, element in enumerate(ELEMENTS) if element.down == place + 1]
 
 
-def sum_written(numbers, total):
-    return f"{' + '.join(map(n, numbers))} = {n(total)}"
+def taken_in(moves, given, figure, margin, basin):
+    """The row of an inflow or of its variance: `basin` writes a basin's own, a reach has the sums of two figures of all that drain in."""
+    def summed(place, name):
+        parts = " + ".join(n(getattr(given[higher], name)) for higher in above(place))
+        return f"{parts} = {n(getattr(moves[place].inflow, name))}"
+
+    def cell(place):
+        if ELEMENTS[place].kind == BASIN:
+            return f"{basin(place)}, margin {getattr(moves[place].inflow, margin)}"
+        return f"{summed(place, figure)}, margin {summed(place, margin)}"
+
+    return cell
 
 
-def moves_written(moves, given, rain_inflow, basin_variance):
+def rain_inflow(moves, rains, divisor):
+    """A basin's inflow as the page writes it: by the latest of its rains."""
+    def written(place):
+        element = ELEMENTS[place]
+        return f"[5 × {rains[place][0]} × {n(element.area)} × {n(element.runoff)} / {divisor}] = {n(moves[place].inflow.discharge)}"
+    return written
+
+
+def moves_written(moves, given, basin_inflow, basin_variance):
     """The table of a step or a lead. `given` are the figures that each element lets out; the two functions write a basin's inflow."""
-    def inflow(place):
-        taken = moves[place].inflow
-        if ELEMENTS[place].kind == BASIN:
-            return f"{rain_inflow(place)} = {n(taken.discharge)}, margin {taken.margin}"
-        return (f"{sum_written([given[higher].discharge for higher in above(place)], taken.discharge)}, margin "
-                f"{sum_written([given[higher].margin for higher in above(place)], taken.margin)}")
-
-    def inflow_variance(place):
-        taken = moves[place].inflow
-        if ELEMENTS[place].kind == BASIN:
-            return f"{basin_variance(place)}, margin {taken.variance_margin}"
-        return (f"{sum_written([given[higher].variance for higher in above(place)], taken.variance)}, margin "
-                f"{sum_written([given[higher].variance_margin for higher in above(place)], taken.variance_margin)}")
-
     def part(which):
         def cell(place):
             blend = moves[place].blends[which]
@@ -173,7 +177,8 @@ def moves_written(moves, given, rain_inflow, basin_variance):
     def variance(place):
         return f"[{moves[place].blends[3].quotient}] + {n(moves[place].system_noise)} = {n(moves[place].figures.variance)}"
 
-    return rows(inflow, inflow_variance, lambda place: moves[place].blends[0].written(),
+    return rows(taken_in(moves, given, "discharge", "margin", basin_inflow),
+                taken_in(moves, given, "variance", "variance_margin", basin_variance), lambda place: moves[place].blends[0].written(),
                 lambda place: moves[place].blends[0].margin_written(), part(1), part(2), variance,
                 lambda place: moves[place].blends[3].margin_written())
 
@@ -276,11 +281,7 @@ def figures_written(figures):
 def one_step():
     rules = Noted()
     state, exact = after_steps(rules, 1)
-
-    def inflow(place):
-        return f"[5 × {state.rains[place][0]} × {n(ELEMENTS[place].area)} × {n(ELEMENTS[place].runoff)} / 18]"
-
-    after = state.figures
+    after, moves = state.figures, rules.moves
     z = RULES.curve(piece_for(decode_table(TABLE).gauges[0], 1_400), 1_400)
     final = []
     for place, (x, v) in enumerate(exact.figures):
@@ -289,8 +290,8 @@ def one_step():
     return f"""{table_told()}
     60 {n(rules.weight(60, 60))} 120 {n(rules.weight(60, 120))}
     {heads_of_columns()}
-    {moves_written(rules.moves, after, inflow, lambda place: n(rules.moves[place].inflow.variance))}
-    element 3 {n(z)} {reading_written(rules, rules.moves[2].figures, z, 200, after[2])}
+    {moves_written(moves, after, rain_inflow(moves, state.rains, "18"), lambda place: n(moves[place].inflow.variance))}
+    element 3 {n(z)} {reading_written(rules, moves[2].figures, z, 200, after[2])}
     {" ".join(final)} {state.steps}"""
 
 
@@ -301,16 +302,13 @@ def one_lead():
     moves, second = rules.moves[:3], rules.moves[3:]
     given = [move.figures for move in moves]
 
-    def inflow(place):
-        return f"[5 × {state.rains[place][0]} × {n(ELEMENTS[place].area)} × {n(ELEMENTS[place].runoff)} / (18 × 1)]"
-
     def variance(lead, moved):
         return lambda place: f"{lead} × {n(ELEMENTS[place].rain_noise)} = {n(moved[place].inflow.variance)}"
 
     at_lead_2 = [Figures(*answer[12 * place + 8:12 * place + 12]) for place in range(3)]
     return f"""lead 1 c = 1 {state.rains[0][0]} {state.rains[1][0]}
     {heads_of_columns()}
-    {moves_written(moves, given, inflow, variance(1, moves))}
+    {moves_written(moves, given, rain_inflow(moves, state.rains, "(18 × 1)"), variance(1, moves))}
     lead 2 {variance(2, second)(0)} {variance(2, second)(1)}
     {" ".join(f"element {place + 1} {figures_written(figures)}" for place, figures in enumerate(at_lead_2))}
     element 3 {n(state.figures[2].margin)} {n(given[2].margin)} {n(at_lead_2[2].margin)}"""
