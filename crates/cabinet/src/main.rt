@@ -1,109 +1,27 @@
-// Document 01, the program: a table and then records on standard input, the figures of each accepted step on standard output.
+// Document 01, the program: a table and then records on standard input, the figures of each accepted step on standard output. The loop
+// alone: what is read, what is written and when the run ends is the machine's to say (`machine::proceed`).
 ghost use mathlib.Core.Path.{_≡_};
-ghost use Prim.Native.Nat.{_≤_};
 ghost use lib.ListN.{length};
-ghost use Rattle.sizes.specs.Sizes.{tableBytes, forecastSpace};
-ghost use Rattle.buffers.specs.Held.{inputBuffer, textBuffer, BuffersFit};
-ghost use Rattle.report.specs.Answers.{RecordReady};
-use buffers::Buffers;
-use buffers::INPUT_BUFFER;
-use buffers::TEXT_BUFFER;
-use buffers::Window;
-use buffers::after_record;
-use buffers::ready;
-use buffers::write_out;
-use fields::bytes::read32;
-use lines::put_refusal;
-use refusal::Refusal;
-use refusal::Verdict;
-use report::answer_next;
-use report::record_length;
+ghost use Rattle.io.specs.Counts.{Counts};
+ghost use Rattle.sizes.specs.Sizes.{mostElements, tableBytes, forecastSpace, inputBuffer, textBuffer};
+ghost use Rattle.table_input.specs.Start.{emptyState};
+use machine::Next;
+use machine::proceed;
+use progress::after_read;
+use progress::first_progress;
 use sizes::FORECAST_SPACE;
+use sizes::INPUT_BUFFER;
 use sizes::MOST_ELEMENTS;
 use sizes::STATE_NUMBERS;
 use sizes::TABLE_BYTES;
-use table::Counts;
-use table_input::started_on_input;
+use sizes::TEXT_BUFFER;
 use text::digit_fours;
 
-// What the program holds before the first record.
-fn first_buffers() -> Buffers
-    ensures { λ r. ⌜ BuffersFit r 0 ⌝ }
+// The bytes of the input that are not used yet.
+fn input_buffer() -> [u8; INPUT_BUFFER]
+    ensures { λ r. ⌜ inputBuffer ≡ length r ⌝ }
 {
-    Buffers {
-        window: Window {
-            from: 0,
-            have: 0,
-            more: true,
-        },
-        at: 0,
-        ended: false,
-    }
-}
-
-// Answers the records, one after the other, up to a hundred thousand, from a state that rule 8 accepts: every record leaves one.
-fn serve(
-    table: &[u8],
-    counts: Counts,
-    weights: &[u64],
-    state: &mut [u64; STATE_NUMBERS],
-    input: &mut [u8],
-    space: &mut [u64],
-    fours: &[u32],
-    out: &mut [u8],
-)
-    requires { ⌜ RecordReady (now table) counts (now weights) (now state) (now space) (now fours) (now out) 0 × (length (now out) ≡ textBuffer) ⌝ }
-{
-    let mut held = first_buffers();
-    let mut count: u64 = 0;
-    while count < 100_000 {
-        held = ready(held, &mut *input, &*out);
-        if held.ended {
-            break;
-        }
-        let window = held.window;
-        let from = window.from;
-        let have = window.have;
-        let length = record_length(&input[from..have]);
-        let answer = answer_next(
-            table,
-            counts,
-            weights,
-            &input[from..have],
-            &mut *state,
-            &mut *space,
-            fours,
-            &mut *out,
-            held.at,
-        );
-        held = after_record(window, length, answer.end, answer.ended);
-        count += 1;
-    }
-    write_out(&*out, held.at);
-}
-
-// The table is refused, and nothing else is read.
-fn refuse(refusal: Refusal) {
-    let mut out = [0u8; 50];
-    let end = put_refusal(&mut out, 0, 0, refusal.code());
-    write_out(&out, end);
-}
-
-// Reads the table by its length field, or its four bytes alone where the table is too long; how many bytes there are.
-fn read_table(table: &mut [u8]) -> usize
-    requires { ⌜ length (now table) ≡ tableBytes ⌝ }
-    ensures { λ r. ⌜ r ≤ tableBytes ⌝ }
-{
-    let first = io::read_full(0, &mut table[0..4]);
-    let counted = read32(&*table, 0);
-    if first < 4 {
-        return first;
-    }
-    if counted > TABLE_BYTES as u64 - 4 {
-        return 4;
-    }
-    let size = counted as usize + 4;
-    4 + io::read_full(0, &mut table[4..size])
+    [0; INPUT_BUFFER]
 }
 
 // The longest table.
@@ -113,11 +31,18 @@ fn table_buffer() -> [u8; TABLE_BYTES]
     [0; TABLE_BYTES]
 }
 
-// Room for two of the longest records.
-fn input_buffer() -> [u8; INPUT_BUFFER]
-    ensures { λ r. ⌜ inputBuffer ≡ length r ⌝ }
+// The weights of the most elements.
+fn weight_space() -> [u64; MOST_ELEMENTS]
+    ensures { λ r. ⌜ mostElements ≡ length r ⌝ }
 {
-    [0; INPUT_BUFFER]
+    [0; MOST_ELEMENTS]
+}
+
+// A state with nothing in it.
+fn empty_state() -> [u64; STATE_NUMBERS]
+    ensures { λ r. ⌜ r ≡ emptyState ⌝ }
+{
+    [0; STATE_NUMBERS]
 }
 
 // Working space for the largest forecast.
@@ -127,46 +52,53 @@ fn forecast_space() -> [u64; FORECAST_SPACE]
     [0; FORECAST_SPACE]
 }
 
-// Room for the longest text of two records.
+// The text that is not written yet.
 fn text_buffer() -> [u8; TEXT_BUFFER]
     ensures { λ r. ⌜ textBuffer ≡ length r ⌝ }
 {
     [0; TEXT_BUFFER]
 }
 
-// The run after the table's bytes are read: the state and the weights are held here, and lent.
-fn run(table: &[u8], input: &mut [u8], space: &mut [u64], out: &mut [u8])
-    requires { ⌜ (length (now space) ≡ forecastSpace) × (length (now out) ≡ textBuffer) ⌝ }
+// One read of standard input; how many bytes came, none at its end.
+fn read_input(buffer: &mut [u8]) -> usize
+    ensures { λ r. ⌜ Counts r (now (buffer .exit)) ⌝ }
 {
-    let mut weights = [0u64; MOST_ELEMENTS];
-    let mut state = [0u64; STATE_NUMBERS];
-    let started = started_on_input(table, &mut weights, &mut state);
-    let verdict = started.verdict;
-    let counts = started.counts;
-    let length = started.length;
-    match verdict {
-        Verdict::Accepted => {
-            let fours = digit_fours();
-            serve(
-                &table[..length],
-                counts,
-                &weights,
-                &mut state,
-                &mut *input,
-                &mut *space,
-                &fours,
-                &mut *out,
-            );
-        }
-        Verdict::Refused(refusal) => refuse(refusal),
-    }
+    let got = libc::read(0, &mut *buffer);
+    io::count(got, &*buffer)
 }
 
 fn main() {
-    let mut table = table_buffer();
     let mut input = input_buffer();
+    let mut table = table_buffer();
+    let mut weights = weight_space();
+    let mut state = empty_state();
     let mut space = forecast_space();
+    let fours = digit_fours();
     let mut out = text_buffer();
-    let have = read_table(&mut table);
-    run(&table[..have], &mut input, &mut space, &mut out);
+    let mut progress = first_progress();
+    loop {
+        let turn = proceed(
+            progress,
+            &mut input,
+            &mut table,
+            &mut weights,
+            &mut state,
+            &mut space,
+            &fours,
+            &mut out,
+        );
+        progress = turn.progress;
+        let done = turn.next;
+        match done {
+            Next::Write(size) => {
+                io::write_all(1, &out[..size]);
+            }
+            Next::End => break,
+            Next::Read(at) => {
+                let got = read_input(&mut input[at..]);
+                progress = after_read(progress, got);
+            }
+            Next::Answer => {}
+        }
+    }
 }

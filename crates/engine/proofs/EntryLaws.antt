@@ -10,23 +10,17 @@ use Rattle.refusal.specs.declared.Refusal.{Refusal}
 use Rattle.refusal.specs.declared.Verdict.{Verdict}
 use Rattle.refusal.specs.declared.Verdict.the-variants.{Accepted, Refused}
 use Rattle.refusal.specs.Verdicts.{verdictAnswer}
-use Rattle.units.specs.Ceiling.{underCeiling}
 use Rattle.method.specs.declared.Figures.{Figures}
 use Rattle.table.specs.declared.Counts.{Counts}
 use Rattle.table.specs.Tables.{TableValues}
 use Rattle.table.specs.Rules.{tableRules}
 use Rattle.table.specs.InUse.{tableIn}
 use Rattle.table.proofs.TableLaws as table-laws
-use Rattle.record.specs.Records.{inputAt}
-use Rattle.record.specs.Rules.{recordRules}
-use Rattle.record.specs.Decoded.{RecordRead}
-use Rattle.record.proofs.RecordLaws as record-laws
 use Rattle.state.specs.States.{State}
-use Rattle.state.specs.Rules.{stateFits, stepsLeft}
+use Rattle.state.specs.Rules.{stateFits}
 use Rattle.state.specs.Start.{started}
 use Rattle.state.specs.Answers.{Answered}
 use Rattle.state.proofs.AnswerLaws.{answered-refused, answered-accepted}
-use Rattle.network.specs.Step.{stepped, stepNumbers}
 use Rattle.network.specs.declared.ForecastAnswer.{ForecastAnswer}
 use Rattle.network.specs.declared.ForecastAnswer.the-variants as of-forecast
 use Rattle.network.specs.Answer.{leadsAnswer}
@@ -64,34 +58,6 @@ module _ (t : TableValues) (bytes : List ℕ) (s : State) where
   pub state-refused : stateFits t s ≡ false → stepOnAnswer t bytes s ≡ refused 8
   unfolding stepOnAnswer
   state-refused h = rw h
-
-  module _ (h : stateFits t s ≡ true) where
-    pub limit-refused : stepsLeft s ≡ false → stepOnAnswer t bytes s ≡ refused 9
-    unfolding stepOnAnswer
-    limit-refused l = rw (h, l)
-
-    module _ (l : stepsLeft s ≡ true) where
-      pub record-refused : {k : ℕ} → recordRules {A = Unit} t bytes (accepted tt) ≡ refused k → stepOnAnswer t bytes s ≡ refused k
-      unfolding stepOnAnswer
-      record-refused r = rw (h, l) (record-laws.rules-refused t bytes _ r)
-
-      pub record-accepted :
-          recordRules {A = Unit} t bytes (accepted tt) ≡ accepted tt
-          → stepOnAnswer t bytes s ≡ underCeiling (stepNumbers t (inputAt t bytes) s) (stepped t (inputAt t bytes) s)
-      unfolding stepOnAnswer
-      record-accepted r = rw (h, l) (record-laws.rules-accepted t bytes _ r)
-
--- what the verdict on a record says of its rules
-module _ (t : TableValues) (bytes : List ℕ) {v : Verdict} {numbers : List ℕ} (h : RecordRead t bytes v numbers) where
-  pub record-kept : v ≡ Accepted → recordRules {A = Unit} t bytes (accepted tt) ≡ accepted tt
-  record-kept e = sym (h .decided) ∙ ap verdictAnswer e
-
-  pub record-verdict : {k : Refusal} → v ≡ Refused k → recordRules {A = Unit} t bytes (accepted tt) ≡ refused (number k)
-  record-verdict e = sym (h .decided) ∙ ap verdictAnswer e
-
--- an answer known by another name
-pub answered-as : {v : Verdict} {after : State} {a b : Answer State} {s : State} → a ≡ b → Answered v after b s → Answered v after a s
-answered-as {v} {after} {a} {b} {s} e h = subst (λ (x : Answer State). Answered v after x s) (sym e) h
 
 -- ---- the forecast
 

@@ -1,3 +1,2 @@
 pub mod FiguresLaws
 pub mod ReportLaws
-pub mod RecordEndLaws

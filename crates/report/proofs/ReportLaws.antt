@@ -2,7 +2,7 @@
 use Prim.{Unit}
 use Prim.Native.Nat.{ℕ, _+_, _*_, _≤_}
 use mathlib.Core.Bool.{true, false}
-use mathlib.Core.List.{List, _++_}
+use mathlib.Core.List.{List}
 use mathlib.Core.Path.{_≡_, refl, sym, ap, subst, fun-ext, _∙_}
 use native.Mathlib.Omega.{arith}
 use lib.Dec.{leb}
@@ -13,8 +13,6 @@ use Rattle.refusal.specs.Answers.{Answer, accepted, refused}
 use Rattle.refusal.specs.declared.Refusal.{Refusal}
 use Rattle.refusal.specs.declared.Verdict.{Verdict}
 use Rattle.refusal.specs.declared.Verdict.the-variants.{Accepted, Refused}
-use Rattle.refusal.specs.Verdicts.{verdictAnswer}
-use Rattle.refusal.proofs.RuleLaws.{not-both}
 use Rattle.method.specs.declared.Figures.{Figures}
 use Rattle.table.specs.Bounds.{TableBounds}
 use Rattle.table.specs.InUse.{tableIn}
@@ -23,8 +21,8 @@ use Rattle.table.specs.Tables.{TableValues}
 use Rattle.table.proofs.TableLaws.{rules-accepted}
 use Rattle.state.specs.States.{State, stepsOf}
 use Rattle.state.specs.Rules.{stateFits}
-use Rattle.state.specs.Answers.{verdict, stateAfter, Answered}
-use Rattle.state.proofs.AnswerLaws.{answered-next}
+use Rattle.state.specs.Answers.{stateAfter, Answered}
+use Rattle.state.proofs.AnswerLaws.{answered-next, answered-not}
 use Rattle.table.specs.declared.Counts.{Counts}
 use Rattle.element_weights.specs.Weights.{Weighed}
 use Rattle.network.specs.Lent.{layout}
@@ -121,18 +119,8 @@ module _ (t : TableValues) (bytes : List ℕ) (s after : State) (v : Verdict) (h
 
   -- a refused step
   step-refused : (k : Refusal) → v ≡ Refused k → (after ≡ s) × (refusalPrinted s (number k) ≡ recordOnPrinted t bytes s)
-  unfolding recordOnPrinted stepPrinted verdict stateAfter
-  step-refused k e = go (stepOnAnswer t bytes s) (h .verdict) (h .state)
-    where
-      go :
-          (answer : Answer State)
-          → verdictAnswer v ≡ verdict answer
-          → after ≡ stateAfter answer s
-          → (after ≡ s) × (refusalPrinted s (number k) ≡ stepPrinted t (λ next. forecastOnAnswer t next answerNumbers) s answer)
-      go (accepted next) u m = absurd (not-both u (ap verdictAnswer e))
-      go (refused n) u m =
-          let c : _≡_ {A = Answer Unit} (refused (number k)) (refused n) = sym (ap verdictAnswer e) ∙ u in
-          let z : number k ≡ n = cc in (m, rw z)
+  unfolding recordOnPrinted stepPrinted
+  step-refused k e = let both = answered-not v after (stepOnAnswer t bytes s) s h e in (both .1, rw (both .0))
 
   pub reported-accepted :
       {r : TextAnswer} {before out : List ℕ} {at : ℕ}
@@ -151,15 +139,6 @@ module _ (t : TableValues) (bytes : List ℕ) (s after : State) (v : Verdict) (h
       let both = step-refused k e in
       let x′ : TextAnswered r before at out (refusalLine (stepsOf s) (number k)) (leb (number k) 10) = rw (both .0) at x in
       rw (← both .1) (record { answered = refusal-printed s (number k) x′; left = both .0 ∙ refusal-state s (number k) })
-
--- a record whose bytes are known by another name
-pub reported-on :
-    (t : TableValues) (s : State) (a b : List ℕ) {r : TextAnswer} {before out after : List ℕ} {at : ℕ}
-    → a ≡ b
-    → Reported r before at out after (recordOnPrinted t a s)
-    → Reported r before at out after (recordOnPrinted t b s)
-reported-on t s a b {r} {before} {out} {after} {at} e h =
-    subst (λ (bytes : List ℕ). Reported r before at out after (recordOnPrinted t bytes s)) e h
 
 -- ---- the counts of a table
 
@@ -227,20 +206,13 @@ module _ (t : TableValues) (bytes : List ℕ) (s : State) (bounds : TableBounds 
           rw (← forecast-state t next (forecastOnAnswer t next answerNumbers)) (next-length t bytes s next bounds full e)
       go (refused n) e = rw (← refusal-state s n) full
 
--- and all that the next record relies on is there again, before it has a place for its text
-pub record-ready :
-    (table bytes : List ℕ) (counts : Counts) (weights : List ℕ) (s : State) (space fours out : List ℕ) {after : State} {space′ out′ : List ℕ}
-    → RecordReady table counts weights s space fours out 0
+-- and so for every record on what it relies on
+pub record-left :
+    (table bytes : List ℕ) (counts : Counts) (weights : List ℕ) (s : State) (space fours out : List ℕ) (at : ℕ) {after : State}
+    → RecordReady table counts weights s space fours out at
     → after ≡ recordOnPrinted (tableIn table) bytes s .state
-    → length space′ ≡ length space
-    → length out′ ≡ length out
-    → RecordReady table counts weights after space′ fours out′ 0
-record-ready table bytes counts weights s space fours out h e m n =
-    record {
-      weighed = h .weighed;
-      stateWhole = rw e (record-length (tableIn table) bytes s (h .weighed .table .bounds) (h .stateWhole));
-      stateKept = rw e (record-fits (tableIn table) bytes s (h .weighed .table .bounds) (h .stateWhole) (h .stateKept));
-      spaceFull = m ∙ h .spaceFull;
-      digits = h .digits;
-      room = omega (arith, h .room, n);
-    }
+    → (length after ≡ stateNumbers) × (stateFits (tableIn table) after ≡ true)
+record-left table bytes counts weights s space fours out at h e = (
+  rw e (record-length (tableIn table) bytes s (h .weighed .table .bounds) (h .stateWhole)),
+  rw e (record-fits (tableIn table) bytes s (h .weighed .table .bounds) (h .stateWhole) (h .stateKept)),
+)

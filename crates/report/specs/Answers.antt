@@ -3,7 +3,7 @@ use Prim.Native.Nat.{ℕ, _+_, _≤_}
 use mathlib.Core.Bool.{Bool, true}
 use mathlib.Core.List.{List}
 use mathlib.Core.Path.{_≡_}
-use lib.ListN.{length, take, drop}
+use lib.ListN.{length}
 use Rattle.sizes.specs.Sizes.{stateNumbers, forecastSpace, textBytes}
 use Rattle.table.specs.InUse.{tableIn}
 use Rattle.state.specs.States.{State}
@@ -14,7 +14,6 @@ use Rattle.text.specs.Fours.{foursBelow}
 use Rattle.text.specs.Places.{Put}
 use Rattle.report.specs.declared.TextAnswer.{TextAnswer}
 use Rattle.report.specs.Records.{Printed}
-use Rattle.report.specs.Program.{recordBytes, restAfter}
 
 -- an accepted table with its counts and weights, a state that rule 8 accepts, working space for a forecast, the digits of
 -- 0 to 9,999, and room for a record's text
@@ -41,9 +40,3 @@ TextAnsweredOf r before at after printed = TextAnswered r before at after (print
 pub record Reported (r : TextAnswer) (before : List ℕ) (at : ℕ) (after : List ℕ) (state : State) (printed : Printed) : Type 0 where
   pub answered : TextAnsweredOf r before at after printed
   pub left : state ≡ printed .state
-
--- the bytes of the next record, and of the input after it
-pub record RecordEnd (rest : List ℕ) (size : ℕ) : Type 0 where
-  pub bytes : recordBytes rest ≡ take size rest
-  pub after : restAfter rest ≡ drop size rest
-  pub within : size ≤ length rest

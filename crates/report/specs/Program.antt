@@ -3,12 +3,13 @@ use Prim.Native.Nat.{ℕ, zero, suc, _+_}
 use mathlib.Core.Bool.{true, false}
 use mathlib.Core.List.{List, [], _∷_, _++_}
 use lib.ListN.{take, drop}
+use Rattle.sizes.specs.Sizes.{mostRecords}
 use Rattle.refusal.specs.Answers.{Answer, accepted, refused}
 use Rattle.fields.specs.Bytes.{number16, number32}
 use Rattle.state.specs.States.{State}
 use Rattle.table_input.specs.Start.{tablePart, emptyState, inputAnswer}
 use Rattle.lines.specs.Printed.{refusalLine}
-use Rattle.report.specs.Records.{Printed, recordPrinted}
+use Rattle.report.specs.Records.{recordPrinted}
 
 -- "A record is judged on its two length bytes and as many bytes after them as these count, or on what is left where the input
 -- stops sooner."
@@ -31,7 +32,7 @@ recordsText (suc left) table (b ∷ rest) s =
 
 -- "After 100,000 records, refused ones counted, the run ends in the same way."
 unfoldable pub runText : List ℕ → Answer State → List ℕ
-runText input (accepted s) = recordsText 100000 (tablePart input) (drop (number32 input 0 + 4) input) s
+runText input (accepted s) = recordsText mostRecords (tablePart input) (drop (number32 input 0 + 4) input) s
 runText input (refused n) = refusalLine 0 n
 
 -- from standard input to standard output

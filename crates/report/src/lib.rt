@@ -9,9 +9,7 @@ ghost use Rattle.table.specs.InUse.{tableIn};
 ghost use Rattle.lines.specs.Printed.{refusalLine};
 ghost use Rattle.entries.specs.Entries.{forecastOnAnswer};
 ghost use Rattle.report.specs.Records.{forecastPrinted, recordOnPrinted};
-ghost use Rattle.report.specs.Answers.{RecordReady, TextAnswered, TextAnsweredOf, Reported, RecordEnd};
-ghost use Rattle.report.specs.Program.{recordBytes};
-use fields::bytes::read16;
+ghost use Rattle.report.specs.Answers.{RecordReady, TextAnswered, TextAnsweredOf, Reported};
 use lines::put_lines;
 use lines::put_refusal;
 use network::ForecastAnswer;
@@ -78,7 +76,7 @@ fn answer_forecast(
 
 // A record on an accepted table, its counts and weights, and a state that rule 8 accepts: what it prints is put at a place of lent space;
 // the other space is lent for its forecast, the digits of all groups of four for its lines.
-fn answer_record(
+pub fn answer_record(
     table: &[u8],
     counts: Counts,
     weights: &[u64],
@@ -92,7 +90,7 @@ fn answer_record(
     requires { ⌜ RecordReady (now table) counts (now weights) (now state) (now space) (now fours) (now out) at ⌝ }
     ensures { λ r. ⌜ Reported r (now (out .entry)) at (now (out .exit)) (now (state .exit)) (recordOnPrinted (tableIn (now (table .entry))) (now (bytes .entry)) (now (state .entry))) ⌝ }
 {
-    let verdict = engine::step_from(table, counts, weights, bytes, &mut *state);
+    let verdict = record_step::step_from(table, counts, weights, bytes, &mut *state);
     match verdict {
         Verdict::Accepted => answer_forecast(
             table,
@@ -106,46 +104,4 @@ fn answer_record(
         ),
         Verdict::Refused(refusal) => answer_refusal(refusal, state[1], &mut *out, at),
     }
-}
-
-// How many bytes of the input that is left the next record has.
-pub fn record_length(rest: &[u8]) -> usize
-    ensures { λ r. ⌜ RecordEnd (now (rest .entry)) r ⌝ }
-{
-    let counted = read16(rest, 0) + 2;
-    let left = rest.len();
-    if counted as usize <= left {
-        counted as usize
-    } else {
-        left
-    }
-}
-
-// The first record of the input that is left.
-pub fn answer_next(
-    table: &[u8],
-    counts: Counts,
-    weights: &[u64],
-    rest: &[u8],
-    state: &mut [u64; STATE_NUMBERS],
-    space: &mut [u64],
-    fours: &[u32],
-    out: &mut [u8],
-    at: usize,
-) -> TextAnswer
-    requires { ⌜ RecordReady (now table) counts (now weights) (now state) (now space) (now fours) (now out) at ⌝ }
-    ensures { λ r. ⌜ Reported r (now (out .entry)) at (now (out .exit)) (now (state .exit)) (recordOnPrinted (tableIn (now (table .entry))) (recordBytes (now (rest .entry))) (now (state .entry))) ⌝ }
-{
-    let size = record_length(rest);
-    answer_record(
-        table,
-        counts,
-        weights,
-        &rest[..size],
-        &mut *state,
-        &mut *space,
-        fours,
-        &mut *out,
-        at,
-    )
 }

@@ -56,3 +56,14 @@ tableBytes = 10 + 26 * mostElements + 46 * mostGauges
 -- the longest text that a record prints: 147 bytes a line
 abbrev pub textBytes : ℕ
 textBytes = 147 * (mostElements * (mostLeads + 1))
+
+-- "After 100,000 records, refused ones counted, the run ends"
+abbrev pub mostRecords : ℕ
+mostRecords = 100000
+
+-- the program's buffers: a record has at most 65,537 bytes
+abbrev pub inputBuffer : ℕ
+inputBuffer = 131072
+
+abbrev pub textBuffer : ℕ
+textBuffer = 262144

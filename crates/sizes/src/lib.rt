@@ -40,3 +40,12 @@ pub const FORECAST_SPACE: usize = 4 * (MOST_ELEMENTS + 1) * (MOST_LEADS + 1);
 pub const TABLE_BYTES: usize = 10 + 26 * MOST_ELEMENTS + 46 * MOST_GAUGES;
 
 pub const TEXT_BYTES: usize = 147 * (MOST_ELEMENTS * (MOST_LEADS + 1));
+
+// The records that a run of the program answers at most.
+pub const MOST_RECORDS: u64 = 100_000;
+
+// The bytes of the program's buffers: room for the longest record, also after as much that is not used yet, and for the longest text of
+// two records.
+pub const INPUT_BUFFER: usize = 131_072;
+
+pub const TEXT_BUFFER: usize = 262_144;

@@ -1,15 +1,15 @@
 -- Laws of the table that the input begins with.
 use Prim.{Unit}
 use Prim.Native.Nat.{ℕ, _+_, _≤_, _<_}
-use mathlib.Core.Bool.{Bool, true, false}
+use mathlib.Core.Bool.{true, false}
 use mathlib.Core.List.{List}
-use mathlib.Core.Path.{_≡_, refl, sym, ap, subst, _∙_}
+use mathlib.Core.Path.{_≡_, refl, sym, ap, _∙_}
 use native.Mathlib.Omega.{arith}
 use native.Mathlib.Nat.{le-refl}
-use borrow.Author.Tests.{le-leb, lt-leb}
+use borrow.Author.Tests.{leb-true, le-leb, lt-leb}
 use lib.Dec.{leb}
-use lib.ListN.{length, take, drop, drop-of-length-le}
-use lib.Seq.{take-all}
+use lib.ListN.{length, take, drop, length-take, drop-of-length-le}
+use lib.Seq.{take-all, length-take-le}
 use Rattle.sizes.specs.Sizes.{stateNumbers, tableBytes}
 use Rattle.refusal.specs.Refusals.{number}
 use Rattle.refusal.specs.Answers.{Answer, accepted, refused}
@@ -118,13 +118,19 @@ module _ (input : List ℕ) (s after : State) (v : Verdict) (h : Answered v afte
   unfolding inputAnswer
   started-part = rule-kept 1 (leb (number32 input 0 + 4) tableBytes) _ found .1
 
--- what is left of an accepted start: the state that the table's rules let through
-started-as : (bytes : List ℕ) (s after : State) → startAnswer bytes s ≡ accepted after → after ≡ started (tableIn bytes) s
+-- what an accepted start tells: the table's rules let it through, and the state is theirs
+started-as :
+    (bytes : List ℕ) (s after : State)
+    → startAnswer bytes s ≡ accepted after
+    → (tableRules {A = Unit} bytes (accepted tt) ≡ accepted tt) × (after ≡ started (tableIn bytes) s)
 unfolding startAnswer
 started-as bytes s after h = go (tableRules {A = Unit} bytes (accepted tt)) refl
   where
-    go : (rules : Answer Unit) → tableRules {A = Unit} bytes (accepted tt) ≡ rules → after ≡ started (tableIn bytes) s
-    go (accepted u) r = let k = rules-accepted bytes (accepted (started (tableIn bytes) s)) r in cc
+    go :
+        (rules : Answer Unit)
+        → tableRules {A = Unit} bytes (accepted tt) ≡ rules
+        → (tableRules {A = Unit} bytes (accepted tt) ≡ accepted tt) × (after ≡ started (tableIn bytes) s)
+    go (accepted u) r = let k = rules-accepted bytes (accepted (started (tableIn bytes) s)) r in (r, cc)
     go (refused k) r = absurd (not-both h (rules-refused bytes (accepted (started (tableIn bytes) s)) r))
 
 pub started-input :
@@ -147,9 +153,26 @@ started-input input size s after r weights t o e =
 module _
     (input : List ℕ) (s after : State) (r : TableStart) (weights : List ℕ) (full : length s ≡ stateNumbers)
     (o : StartedOnInput input s r weights after) (v : r .verdict ≡ Accepted) where
-  started-here : after ≡ started (tableIn (take (r .length) input)) s
-  started-here =
+  begun :
+      (tableRules {A = Unit} (take (r .length) input) (accepted tt) ≡ accepted tt)
+      × (after ≡ started (tableIn (take (r .length) input)) s)
+  begun =
       started-as (take (r .length) input) s after (rw (o .bytes v) (started-part input s after (r .verdict) (o .answered) v))
+
+  pub started-input-kept : tableRules {A = Unit} (take (r .length) input) (accepted tt) ≡ accepted tt
+  started-input-kept = begun .0
+
+  started-here : after ≡ started (tableIn (take (r .length) input)) s
+  started-here = begun .1
+
+  -- an accepted table has at most as many bytes as the longest
+  pub started-input-short : r .length ≤ tableBytes
+  unfolding tablePart
+  started-input-short =
+      let few = leb-true (number32 input 0 + 4) tableBytes (not-long input s after (r .verdict) (o .answered) v) in
+      let all = length-take-le (r .length) input (o .within) in
+      let part = ap length (o .bytes v) ∙ length-take (number32 input 0 + 4) input in
+      omega (arith, few, all, part)
 
   pub started-input-fits : stateFits (tableIn (take (r .length) input)) after ≡ true
   started-input-fits = rw started-here (started-fits (tableIn (take (r .length) input)) s (o .fits v .table .bounds) full)

@@ -2,8 +2,9 @@
 use borrow.Author.Needs.{needs}
 use Rattle.table.proofs.HeldLaws.{table-accepted, table-refused}
 use Rattle.table.proofs.TableLaws.{rules-accepted}
+use Rattle.state.proofs.AnswerLaws.{answered-as}
 use Rattle.entries.specs.Entries.{stepAnswer}
-use Rattle.engine.proofs.EntryLaws.{refused-by-table, answered-as}
+use Rattle.engine.proofs.EntryLaws.{refused-by-table}
 use Rattle.engine.proofs.step.Statement.{statement}
 use Rattle.engine.proofs.step.Tie as tie
 

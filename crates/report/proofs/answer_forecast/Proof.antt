@@ -3,16 +3,10 @@ use borrow.Author.Needs.{needs}
 use mathlib.Core.Path.{ap, _∙_}
 use Prim.Native.Nat.{_+_, _*_}
 use native.Mathlib.Omega.{arith}
-use Rattle.text.proofs.PlacesLaws.{put-same}
 use Rattle.report.proofs.FiguresLaws.{forecast-shown, forecast-not-shown, shown-under, rest-of, part-room}
 use Rattle.report.proofs.ReportLaws.{text-as, refusal-printed, lines-printed, forecast-refused, few-elements, few-leads, lines-few, counted-lines, counted-under}
 use Rattle.report.proofs.answer_forecast.Statement.{statement}
 use Rattle.report.proofs.answer_forecast.Tie as tie
-use Rattle.report.proofs.answer_forecast.Reads as reads
-use Rattle.report.proofs.answer_forecast.Lts as lts
-use Rattle.leads.proofs.forecast_in.Reads as forecast-in-reads
-use Rattle.lines.proofs.put_lines.Reads as put-lines-reads
-use Rattle.report.proofs.answer_refusal.Reads as answer-refusal-reads
 
 forecast-in-requires : tie.Need-forecast-in-requires
 forecast-in-requires c κs = search needs

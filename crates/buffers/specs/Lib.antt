@@ -1,2 +1,0 @@
-pub mod Windows
-pub mod Held

@@ -1,0 +1,3 @@
+pub mod MoveLaws
+pub mod HoldLaws
+pub mod RecordEndLaws

@@ -1,0 +1,5 @@
+pub mod NextLaws
+pub mod HeldLaws
+pub mod ToPrintLaws
+pub mod MeasureLaws
+pub mod Theorem
