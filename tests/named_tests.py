@@ -1,11 +1,12 @@
 #!/usr/bin/env python3
-"""Holds the columns "tried by" of docs/PROOFS.md to the tests that they name.
+"""Holds the columns "tried by" of docs/PROOFS.md to the tests that they name, and the code that it shows to the program's.
 
     python3 tests/named_tests.py [document]
 
   names   each stands in the quick list of inputs.py, in call_cases.py, live_line.py or mutants.py, or begins names that stand there
   rules   by the calculator the named inputs print the rule's number, and not all of them; the same for the named calls' refusals
   wrong   each wrong program or library in Python is caught by inputs or calls of its row; of those in C only the name is looked up
+  code    the program's main is shown, and what is shown stands so in its source
 
 The last line is "named tests: N names, F failed"; the exit code is 0 only where none failed. Nothing is built or started for it.
 """
@@ -22,7 +23,8 @@ from judge import judge
 from live_line import LINES
 from mutants import SEED, WRONG_IN_C, libraries, mutants
 
-DOCUMENT = Path(__file__).resolve().parent.parent / "docs/PROOFS.md"
+ROOT = Path(__file__).resolve().parent.parent
+DOCUMENT, SOURCE = ROOT / "docs/PROOFS.md", ROOT / "crates/cabinet/src/main.rt"
 COLUMN, RULES_SECTION = "tried by", "The rules"
 RULES_OF_CALLS = (8, 15)  # the program never prints these
 PART = re.compile(r"(inputs|calls|line|wrong) (`[^`]+`(?:, `[^`]+`)*)")
@@ -144,9 +146,22 @@ def wrong_complaints(row):
             yield f"no call of the row catches `{name}`"
 
 
+def code_complaints(document):
+    blocks = re.findall(r"^```rust\n(.*?)^```$", document, re.S | re.M)
+    if not any("fn main() {" in block for block in blocks):
+        yield "the program's main is not shown"
+    for block in blocks:
+        if block not in SOURCE.read_text():
+            yield f"not so in {SOURCE.relative_to(ROOT)}: {block.splitlines()[0]}"
+
+
 def main():
-    rows = list(rows_of((Path(sys.argv[1]) if len(sys.argv) > 1 else DOCUMENT).read_text()))
+    document = (Path(sys.argv[1]) if len(sys.argv) > 1 else DOCUMENT).read_text()
+    rows = list(rows_of(document))
     failed = 0
+    for complaint in code_complaints(document):
+        failed += 1
+        print(f"FAILED code: {complaint}")
     for row in rows:
         for complaint in (*name_complaints(row), *rule_complaints(row), *wrong_complaints(row)):
             failed += 1

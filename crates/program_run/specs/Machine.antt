@@ -1,4 +1,5 @@
--- Document 01, the program, one thing after the other: what it holds, what it does next, and what it holds then.
+-- Document 01, the program, one thing after the other: what it holds, what it does next, and what it holds then. That this prints
+-- what `program` says is proved (`proofs/Theorem.antt`); what is left to be believed is in `Pieces.antt`.
 use Prim.Native.Nat.{ℕ, _+_, _-_}
 use mathlib.Core.Bool.{Bool, true, false, not, cond}
 use mathlib.Core.List.{List, [], _∷_, _++_}

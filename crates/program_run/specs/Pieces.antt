@@ -1,4 +1,5 @@
--- The program's loop (`cabinet/src/main.rt`), for input that comes in pieces: what it has written, and whether it has ended.
+-- The program's loop, to be read beside `main` (`cabinet/src/main.rt`), for input that comes in pieces: what it has written, and whether
+-- it has ended.
 use Prim.Native.Nat.{ℕ, zero, suc}
 use mathlib.Core.Bool.{Bool, true, false}
 use mathlib.Core.List.{List, [], _∷_, _++_}
