@@ -7,7 +7,7 @@ use native.Mathlib.Omega.{arith}
 use borrow.Rule.Slice.PartMut.{midOf, putMid, same-len-mid, take-put}
 use lib.ListN.{length, take, drop, length-take, length-drop}
 use lib.Seq.{length-take-le}
-use Rattle.sizes.specs.Sizes.{mostElements, stateNumbers, tableBytes, inputBuffer, textBuffer}
+use Rattle.sizes.specs.Sizes.{mostElements, stateNumbers, tableBytes, longestRecord, inputBuffer, textBuffer}
 use Rattle.state.specs.States.{State}
 use Rattle.program_run.specs.Machine as definition
 use Rattle.program_run.specs.Machine.{Held, next, written, answered, afterNext, given, closed}
@@ -119,7 +119,7 @@ module _
       unfolding heldIn
       still-open = ap (λ (k : Held). k .over) same ∙ read-open h did
 
-      unused-short : length (h .unused) < 65538
+      unused-short : length (h .unused) < longestRecord
       unfolding heldIn
       unused-short =
           let bytes = ap (λ (k : Held). length (k .unused)) same in

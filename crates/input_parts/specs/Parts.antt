@@ -1,15 +1,16 @@
 -- Serves the code: what it finds in the bytes that are read and not used yet.
-use Prim.Native.Nat.{ℕ, _≤_}
+use Prim.Native.Nat.{ℕ, _≤_, _<_}
 use mathlib.Core.Bool.{Bool}
 use mathlib.Core.List.{List}
 use mathlib.Core.Path.{_≡_}
 use lib.ListN.{length, take, drop}
+use Rattle.sizes.specs.Sizes.{longestRecord}
 use Rattle.report.specs.Program.{recordBytes, restAfter}
 
 -- a test of the bytes that are held; where more are needed, they are fewer than the longest record
 pub record Tells (r : Bool) (test : Bool) (enough : Bool) (bytes : List ℕ) : Type 0 where
   pub same : r ≡ test
-  pub few : r ≡ enough → length bytes ≤ 65536
+  pub few : r ≡ enough → length bytes < longestRecord
 
 -- where the next record ends: its bytes, and the input after it
 pub record RecordEnd (rest : List ℕ) (size : ℕ) : Type 0 where

@@ -4,6 +4,7 @@ use mathlib.Core.Bool.{true, false}
 use mathlib.Core.List.{List, [], _∷_}
 use mathlib.Core.Path.{_≡_, refl, sym, ap, subst, _∙_}
 use native.Mathlib.Omega.{arith}
+use lib.Dec.{leb}
 use lib.ListN.{length, take, drop, length-take, length-drop}
 use lib.Seq.{length-take-le}
 use Rattle.sizes.specs.Sizes.{tableBytes}
@@ -16,14 +17,17 @@ use Rattle.state.specs.States.{State}
 use Rattle.state.proofs.AnswerLaws.{answered-next, answered-not}
 use Rattle.text.specs.Places.{Put}
 use Rattle.lines.specs.Printed.{refusalLine}
+use Rattle.refusal_answer.specs.declared.TextAnswer.{TextAnswer}
+use Rattle.refusal_answer.specs.Answers.{TextAnswered}
 use Rattle.table_input.specs.Start.{inputAnswer}
+use Rattle.refusal_answer.specs.declared.TextAnswer.{TextAnswer}
+use Rattle.refusal_answer.specs.Answers.{TextAnswered}
 use Rattle.table_input.specs.Starts.{StartedOnInput}
 use Rattle.table_input.specs.declared.TableStart.{TableStart}
 use Rattle.table_input.proofs.StartsLaws.{started-input-kept, started-input-short, started-input-fits, started-input-length}
 use Rattle.report.specs.Records.{Printed, recordPrinted, recordOnPrinted}
 use Rattle.report.specs.Program.{recordBytes}
 use Rattle.report.specs.Answers.{RecordReady, Reported}
-use Rattle.report.specs.declared.TextAnswer.{TextAnswer}
 use Rattle.report.proofs.ReportLaws.{record-on, record-left}
 use Rattle.program_run.specs.Machine.{Held, stopped, tableAnswered, recordAnswered, recordsAnswered, answered}
 use Rattle.progress.specs.declared.Progress.{Progress}
@@ -122,24 +126,22 @@ module _
       }
 
   pub table-refused :
-      {k : Refusal} (code end : ℕ) (text : List ℕ)
+      {k : Refusal} (a : TextAnswer) (text : List ℕ)
       → t .verdict ≡ Refused k
-      → code ≡ number k
-      → Put out (p .at) (refusalLine 0 code) text end
-      → end ≤ p .at + 50
+      → TextAnswered a out (p .at) text (refusalLine 0 (number k)) (leb (number k) 10)
       → length text ≡ length out
-      → Answered (heldIn p input table state out) (afterRefusal p end) input table later after text
+      → Answered (heldIn p input table state out) (afterRefusal p (a .end)) input table later after text
   unfolding heldIn tableAnswered
-  table-refused {k} code end text v c put few same =
+  table-refused {k} a text v put same =
       let both = answered-not (t .verdict) after (inputAnswer (unusedIn p input) state) state (o .answered) v in
       record {
-        held = rw (answered-table (heldIn p input table state out) (d .phase), both .0, both .1, put .holds, c);
+        held = rw (answered-table (heldIn p input table state out) (d .phase), both .0, both .1, put .text .holds);
         fits =
             record {
               order = f .order;
               inside = f .inside;
               tableInside = f .tableInside;
-              textInside = omega (arith, few, d .room);
+              textInside = omega (arith, put .within, d .room);
               inputWhole = f .inputWhole;
               tableWhole = f .tableWhole;
               weightsWhole = full ∙ f .weightsWhole;

@@ -1,8 +1,9 @@
 -- Serves the code: what a call of the machine leaves.
-use Prim.Native.Nat.{ℕ, _≤_}
+use Prim.Native.Nat.{ℕ, _≤_, _<_}
 use mathlib.Core.List.{List}
 use mathlib.Core.Path.{_≡_}
 use lib.ListN.{length, take}
+use Rattle.sizes.specs.Sizes.{longestRecord}
 use Rattle.state.specs.States.{State}
 use Rattle.program_run.specs.Machine as definition
 use Rattle.program_run.specs.Machine.{Held, next, answered, afterNext}
@@ -30,7 +31,7 @@ pub record Answered
 -- more input is asked for, after the bytes that are held: there is room for it
 pub record ReadPlace (p : Progress) (at : ℕ) : Type 0 where
   pub place : at ≡ p .have
-  pub room : at ≤ 65536
+  pub room : at < longestRecord
 
 -- the next thing is done
 pub record Turned

@@ -4,7 +4,6 @@ ghost use Rattle.machine.specs.Buffers.{BuffersFit, WorkingSpace, TableD
 ghost use Rattle.machine.specs.Turns.{Answered, Turned};
 use input_parts::record_length;
 use input_parts::wants_more;
-use lines::put_refusal;
 use progress::Progress;
 use progress::after_record;
 use progress::after_refusal;
@@ -15,6 +14,7 @@ use progress::has_ended;
 use progress::moved_front;
 use progress::text_due;
 use refusal::Verdict;
+use refusal_answer::answer_refusal;
 use report::answer_record;
 use sizes::STATE_NUMBERS;
 use table_input::started_on_input;
@@ -59,8 +59,8 @@ fn table_answered(
             after_table(p, counts, size)
         }
         Verdict::Refused(refusal) => {
-            let end = put_refusal(&mut *out, p.at, 0, refusal.code());
-            after_refusal(p, end)
+            let answer = answer_refusal(refusal, 0, &mut *out, p.at);
+            after_refusal(p, answer.end)
         }
     }
 }

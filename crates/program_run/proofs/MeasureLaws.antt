@@ -6,6 +6,7 @@ use mathlib.Core.Path.{_≡_, refl, _∙_}
 use native.Mathlib.Omega.{arith}
 use lib.Dec.{eqb}
 use lib.ListN.{length, length-append}
+use Rattle.sizes.specs.Sizes.{longestRecord}
 use Rattle.refusal.specs.Answers.{Answer, accepted, refused}
 use Rattle.state.specs.States.{State}
 use Rattle.table_input.specs.Start.{inputAnswer}
@@ -17,7 +18,7 @@ use Rattle.program_run.proofs.NextLaws.{write-next, read-open, answer-n
 -- by what is left to be answered, then by the bytes that a record may still lack and whether more input comes, then by whether there
 -- is text
 unfoldable pub sizeOf : ℕ → ℕ → ℕ → ℕ → ℕ
-sizeOf answers bytes comes text = 2 * (65539 * answers + (65538 - bytes) + comes) + text
+sizeOf answers bytes comes text = 2 * ((longestRecord + 1) * answers + (longestRecord - bytes) + comes) + text
 
 -- the records that are left, and the table
 unfoldable pub answersLeft : Bool → ℕ → ℕ
@@ -47,7 +48,7 @@ less-answers answers′ answers bytes′ bytes comes text′ text h few = omega 
 
 more-bytes :
     (answers bytes′ bytes comes text : ℕ)
-    → bytes < 65538
+    → bytes < longestRecord
     → bytes < bytes′
     → sizeOf answers bytes′ comes text < sizeOf answers bytes comes text
 unfolding sizeOf
@@ -157,7 +158,7 @@ answer-less h n =
 
 pub given-less :
     (h : Held) (piece : List ℕ)
-    → length (h .unused) < 65538
+    → length (h .unused) < longestRecord
     → 0 < length piece
     → size (given h piece) < size h
 unfolding size given

@@ -33,21 +33,13 @@ use Rattle.text.proofs.PlacesLaws.{put-same}
 use Rattle.lines.specs.Ceiling.{FiguresUnderCeiling}
 use Rattle.lines.specs.Printed.{answerLines, refusalLine}
 use Rattle.lines.proofs.PrintedLaws.{lines-before}
-use Rattle.report.specs.declared.TextAnswer.{TextAnswer}
+use Rattle.refusal_answer.specs.declared.TextAnswer.{TextAnswer}
+use Rattle.refusal_answer.specs.Answers.{TextAnswered}
 use Rattle.report.specs.Records.{Printed, figuresLines, refusalPrinted, forecastPrinted, stepPrinted, recordPrinted, recordOnPrinted}
-use Rattle.report.specs.Answers.{RecordReady, TextAnswered, TextAnsweredOf, Reported}
+use Rattle.report.specs.Answers.{RecordReady, TextAnsweredOf, Reported}
 use Rattle.report.proofs.FiguresLaws.{ForecastShown, few-lines}
 
 -- ---- the text
-
--- a refusal's line
-pub refusal-text :
-    (steps n code end : ℕ) {before after : List ℕ} {at : ℕ}
-    → code ≡ n
-    → Put before at (refusalLine steps code) after end
-    → end ≤ at + 50
-    → TextAnswered (record { end = end; ended = leb code 10 }) before at after (refusalLine steps n) (leb n 10)
-refusal-text steps n code end e p few = record { text = rw e at p; ended = ap (λ k. leb k 10) e; within = omega arith }
 
 -- what is printed of a refusal, where another name says the same
 pub text-as :

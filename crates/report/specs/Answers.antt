@@ -1,6 +1,6 @@
 -- Serves the code: what it relies on, and what it answers for a record.
 use Prim.Native.Nat.{ℕ, _+_, _≤_}
-use mathlib.Core.Bool.{Bool, true}
+use mathlib.Core.Bool.{true}
 use mathlib.Core.List.{List}
 use mathlib.Core.Path.{_≡_}
 use lib.ListN.{length}
@@ -11,8 +11,8 @@ use Rattle.state.specs.Rules.{stateFits}
 use Rattle.table.specs.declared.Counts.{Counts}
 use Rattle.element_weights.specs.Weights.{Weighed}
 use Rattle.text.specs.Fours.{foursBelow}
-use Rattle.text.specs.Places.{Put}
-use Rattle.report.specs.declared.TextAnswer.{TextAnswer}
+use Rattle.refusal_answer.specs.declared.TextAnswer.{TextAnswer}
+use Rattle.refusal_answer.specs.Answers.{TextAnswered}
 use Rattle.report.specs.Records.{Printed}
 
 -- an accepted table with its counts and weights, a state that rule 8 accepts, working space for a forecast, the digits of
@@ -27,12 +27,7 @@ pub record RecordReady
   pub digits : fours ≡ foursBelow 10000
   pub room : at + textBytes ≤ length out
 
--- a text is put at a place
-pub record TextAnswered (r : TextAnswer) (before : List ℕ) (at : ℕ) (after line : List ℕ) (ends : Bool) : Type 0 where
-  pub text : Put before at line after (r .end)
-  pub ended : r .ended ≡ ends
-  pub within : r .end ≤ at + textBytes
-
+-- a text is put at a place, as it is printed of a record
 abbrev pub TextAnsweredOf : TextAnswer → List ℕ → ℕ → List ℕ → Printed → Type 0
 TextAnsweredOf r before at after printed = TextAnswered r before at after (printed .text) (printed .ended)
 

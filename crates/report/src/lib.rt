@@ -1,41 +1,16 @@
 // What the program prints of a record, and the state that the record leaves.
-ghost use mathlib.Core.Path.{_≡_};
-ghost use Prim.Native.Nat.{_+_, _≤_};
-ghost use lib.Dec.{leb};
-ghost use lib.ListN.{length};
 ghost use Rattle.sizes.specs.Sizes.{answerNumbers};
-ghost use Rattle.refusal.specs.Refusals.{number};
 ghost use Rattle.table.specs.InUse.{tableIn};
-ghost use Rattle.lines.specs.Printed.{refusalLine};
 ghost use Rattle.entries.specs.Entries.{forecastOnAnswer};
 ghost use Rattle.report.specs.Records.{forecastPrinted, recordOnPrinted};
-ghost use Rattle.report.specs.Answers.{RecordReady, TextAnswered, TextAnsweredOf, Reported};
+ghost use Rattle.report.specs.Answers.{RecordReady, TextAnsweredOf, Reported};
 use lines::put_lines;
-use lines::put_refusal;
 use network::ForecastAnswer;
-use refusal::Refusal;
 use refusal::Verdict;
+use refusal_answer::TextAnswer;
+use refusal_answer::answer_refusal;
 use sizes::STATE_NUMBERS;
 use table::Counts;
-
-// The place after a record's text, and whether it ends the run.
-pub struct TextAnswer {
-    pub end: usize,
-    pub ended: bool,
-}
-
-// A refusal's line, put at a place, after so many accepted steps.
-fn answer_refusal(refusal: Refusal, steps: u64, out: &mut [u8], at: usize) -> TextAnswer
-    requires { ⌜ at + 50 ≤ length (now out) ⌝ }
-    ensures { λ r. ⌜ TextAnswered r (now (out .entry)) at (now (out .exit)) (refusalLine steps (number refusal)) (leb (number refusal) 10) ⌝ }
-{
-    let code = refusal.code();
-    let end = put_refusal(&mut *out, at, steps, code);
-    TextAnswer {
-        end,
-        ended: code <= 10,
-    }
-}
 
 // The forecast after an accepted step, which rule 8 never refuses: its lines, or its refusal's. It is worked out in lent space, in which
 // its answer begins after the places of what leaves the river.

@@ -61,7 +61,11 @@ textBytes = 147 * (mostElements * (mostLeads + 1))
 abbrev pub mostRecords : ℕ
 mostRecords = 100000
 
--- the program's buffers: a record has at most 65,537 bytes
+-- the longest that two length bytes count, and these two
+abbrev pub longestRecord : ℕ
+longestRecord = 65537
+
+-- the program's buffers
 abbrev pub inputBuffer : ℕ
 inputBuffer = 131072
 

@@ -10,6 +10,7 @@ use Rattle.sizes.specs.Sizes.{stateNumbers, inputBuffer}
 use Rattle.state.specs.States.{State}
 use Rattle.table_input.specs.Start.{emptyState}
 use Rattle.cabinet.proofs.LoopLaws.{first-fits, written-less, answered-less, read-few, read-fits, read-less}
+use Rattle.program_run.specs.Machine.{Held}
 use Rattle.program_run.proofs.MeasureLaws.{size}
 use Rattle.progress.specs.Places.{heldIn}
 use Rattle.machine.specs.Buffers.{BuffersFit, WorkingSpace}
@@ -31,6 +32,13 @@ Inv-loop input₀ table₀ weights₀ state₀ space₀ fours out₀ progress₀
 abbrev μ-loop : tie.MeasureT-loop
 μ-loop input₀ table₀ weights₀ state₀ space₀ fours out₀ progress₀ input table weights state space out progress =
     size (heldIn progress input table state out)
+
+abbrev loop-at : tie.After-proceed Inv-loop μ-loop → tie.At-loop Inv-loop μ-loop
+loop-at c = c .before .before .before .before .before .before .before .before
+
+-- what is held as a turn begins
+abbrev held-at : tie.At-loop Inv-loop μ-loop → Held
+held-at c = heldIn (c .loop .progress) (c .loop .input) (c .loop .table) (c .loop .state) (c .loop .out)
 
 input-buffer-requires : tie.Need-input-buffer-requires Inv-loop μ-loop
 input-buffer-requires c κs = search needs
@@ -108,7 +116,7 @@ loop-less c = written-less _ _ _ _ _ _ _ (c .before .before .before .before .bef
 
 loop-again : tie.Need-loop-again Inv-loop μ-loop
 loop-again c =
-    let p = c .before .before .before .before .before .before .before .before .before .before .before in (p .proceed .ensures .fits, tools-kept (p .before .before .before .before .before .before .before .before .loop .inv .1) (p .proceed .kept .1 .1 .1 .1 .1 .0))
+    let p = c .before .before .before .before .before .before .before .before .before .before .before in (p .proceed .ensures .fits, tools-kept (loop-at p .loop .inv .1) (p .proceed .kept .1 .1 .1 .1 .1 .0))
 
 enum-told : tie.Need-enum-told Inv-loop μ-loop
 enum-told c = search needs
@@ -136,14 +144,14 @@ after-read-requires c κs =
     let r = c .before in
     let d = r .before .before .before in
     let p = d .before .before .before .before .before .before .before .before in
-    read-few _ _ _ _ _ _ _ (p .proceed .ensures) _ (d .done2 .given .1) _ (inputBuffer - d .done2 .given .0 .0) (r .read-input .last .0) (r .read-input .kept .0) (r .read-input .ensures .0)
+    read-few (held-at (loop-at p)) _ _ _ _ _ _ (p .proceed .ensures) _ (d .done2 .given .1) _ (inputBuffer - d .done2 .given .0 .0) (r .read-input .last .0) (r .read-input .kept .0) (r .read-input .ensures .0)
 
 loop-less-2 : tie.Need-loop-less-2 Inv-loop μ-loop
 loop-less-2 c =
     let r = c .before .before in
     let d = r .before .before .before in
     let p = d .before .before .before .before .before .before .before .before in
-    read-less _ _ _ _ _ _ _ (p .proceed .ensures) _ (d .done2 .given .1) _ (inputBuffer - d .done2 .given .0 .0) (r .read-input .last .0) (r .read-input .kept .0) (r .read-input .ensures .0) _
+    read-less (held-at (loop-at p)) _ _ _ _ _ _ (p .proceed .ensures) _ (d .done2 .given .1) _ (inputBuffer - d .done2 .given .0 .0) (r .read-input .last .0) (r .read-input .kept .0) (r .read-input .ensures .0) _
     (c .after-read .ensures)
 
 loop-again-2 : tie.Need-loop-again-2 Inv-loop μ-loop
@@ -151,9 +159,9 @@ loop-again-2 c =
     let r = c .before .before in
     let d = r .before .before .before in
     let p = d .before .before .before .before .before .before .before .before in (
-      read-fits _ _ _ _ _ _ _ (p .proceed .ensures) _ (d .done2 .given .1) _ (inputBuffer - d .done2 .given .0 .0) (r .read-input .last .0) (r .read-input .kept .0) (r .read-input .ensures .0) _
+      read-fits (held-at (loop-at p)) _ _ _ _ _ _ (p .proceed .ensures) _ (d .done2 .given .1) _ (inputBuffer - d .done2 .given .0 .0) (r .read-input .last .0) (r .read-input .kept .0) (r .read-input .ensures .0) _
           (c .after-read .ensures),
-      tools-kept (p .before .before .before .before .before .before .before .before .loop .inv .1) (p .proceed .kept .1 .1 .1 .1 .1 .0),
+      tools-kept (loop-at p .loop .inv .1) (p .proceed .kept .1 .1 .1 .1 .1 .0),
     )
 
 enum-told-2 : tie.Need-enum-told-2 Inv-loop μ-loop
@@ -164,7 +172,7 @@ loop-less-3 c = answered-less _ _ _ _ _ _ _ (c .before .before .before .before .
 
 loop-again-3 : tie.Need-loop-again-3 Inv-loop μ-loop
 loop-again-3 c =
-    let p = c .before .before .before .before .before .before .before .before in (p .proceed .ensures .fits, tools-kept (p .before .before .before .before .before .before .before .before .loop .inv .1) (p .proceed .kept .1 .1 .1 .1 .1 .0))
+    let p = c .before .before .before .before .before .before .before .before in (p .proceed .ensures .fits, tools-kept (loop-at p .loop .inv .1) (p .proceed .kept .1 .1 .1 .1 .1 .0))
 
 returns : tie.Need-returns Inv-loop μ-loop
 returns c = search needs

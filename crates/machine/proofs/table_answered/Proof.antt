@@ -38,11 +38,8 @@ after-table-requires c κs = search needs
 enum-known-verdict : tie.Need-enum-known-verdict
 enum-known-verdict c = search needs
 
-code-requires : tie.Need-code-requires
-code-requires c κs = search needs
-
-put-refusal-requires : tie.Need-put-refusal-requires
-put-refusal-requires c κs = search needs
+answer-refusal-requires : tie.Need-answer-refusal-requires
+answer-refusal-requires c κs = search needs
 
 after-refusal-requires : tie.Need-after-refusal-requires
 after-refusal-requires c κs = search needs
@@ -72,12 +69,12 @@ same-length-4 c = search needs
 returns-2 : tie.Need-returns-2
 returns-2 c =
     let t = c .before .before .before in
-    let v = t .before .before .before .before in
+    let v = t .before .before .before in
     let o = v .before .before .before .before .before in
     let s = o .before .before .before .before .before .before .before .before in
     answered-as (c .after-refusal .ensures)
-    (table-refused _ _ _ _ _ _ (s .pre .0) (s .pre .1) _ _ _ (o .started-on-input .ensures) (o .started-on-input .kept .1 .0) _ _ _
-    (v .verdict .given .1) (t .before .code .ensures) (t .put-refusal .ensures .0) (t .put-refusal .ensures .1) (t .put-refusal .kept .0))
+    (table-refused _ _ _ _ _ _ (s .pre .0) (s .pre .1) _ _ _ (o .started-on-input .ensures) (o .started-on-input .kept .1 .0) _ _
+    (v .verdict .given .1) (t .answer-refusal .ensures) (t .answer-refusal .kept .1 .1 .0))
 
 pub table-answered-spec : {M : Type 1} → statement M
 table-answered-spec =
@@ -92,8 +89,7 @@ table-answered-spec =
     put-bytes-requires
     after-table-requires
     enum-known-verdict
-    code-requires
-    put-refusal-requires
+    answer-refusal-requires
     after-refusal-requires
     same-length
     same-length-2

@@ -1,8 +1,8 @@
 -- `answer_refusal` meets its contract.
-use Rattle.report.proofs.ReportLaws.{refusal-text}
+use Rattle.refusal_answer.proofs.RefusalLaws.{refusal-text}
 use borrow.Author.Needs.{needs}
-use Rattle.report.proofs.answer_refusal.Statement.{statement}
-use Rattle.report.proofs.answer_refusal.Tie as tie
+use Rattle.refusal_answer.proofs.answer_refusal.Statement.{statement}
+use Rattle.refusal_answer.proofs.answer_refusal.Tie as tie
 
 code-requires : tie.Need-code-requires
 code-requires c κs = search needs
