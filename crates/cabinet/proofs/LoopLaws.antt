@@ -18,6 +18,7 @@ use Rattle.progress.specs.Places.{heldIn, FirstProgress, ReadIn}
 use Rattle.machine.specs.declared.Next.the-variants.{Write, Read, Answer}
 use Rattle.machine.specs.declared.Turn.{Turn}
 use Rattle.machine.specs.Buffers.{BuffersFit}
+use Rattle.machine.proofs.AnswerLaws.{sizes-kept}
 use Rattle.machine.specs.Turns.{nextIn, Turned}
 
 -- before the first turn
@@ -36,11 +37,7 @@ first-fits p input table weights state out f i t w s o =
       inside = omega (arith, f .have);
       tableInside = omega (arith, f .length);
       textInside = omega (arith, f .at);
-      inputWhole = sym i;
-      tableWhole = sym t;
-      weightsWhole = sym w;
-      stateWhole = s;
-      textWhole = sym o;
+      sizes = record { inputWhole = sym i; tableWhole = sym t; weightsWhole = sym w; stateWhole = s; textWhole = sym o };
       started = λ j some. absurd (let z : _≡_ {A = ℕ} 0 1 = cc (j, f .judged) in omega (arith, z));
     }
 
@@ -81,7 +78,7 @@ module _
     place = t .read at e .place
 
     room : at ≤ length input
-    room = omega (arith, t .read at e .room, t .fits .inputWhole)
+    room = omega (arith, t .read at e .room, t .fits .sizes .inputWhole)
 
     few : at + got ≤ length input
     few =
@@ -89,7 +86,7 @@ module _
         let rest = length-drop at input in omega (arith, lent, count, some, rest, room)
 
     pub read-few : r .progress .have + got ≤ inputBuffer
-    read-few = omega (arith, few, place, t .fits .inputWhole)
+    read-few = omega (arith, few, place, t .fits .sizes .inputWhole)
 
     full : length after ≡ length input
     full = same-len-mid at k input part lent
@@ -104,14 +101,10 @@ module _
           rw (i .same)
           (record {
             order = omega (arith, f .order);
-            inside = omega (arith, few, place, f .inputWhole);
+            inside = omega (arith, few, place, f .sizes .inputWhole);
             tableInside = f .tableInside;
             textInside = f .textInside;
-            inputWhole = full ∙ f .inputWhole;
-            tableWhole = f .tableWhole;
-            weightsWhole = f .weightsWhole;
-            stateWhole = f .stateWhole;
-            textWhole = f .textWhole;
+            sizes = sizes-kept (f .sizes) full refl refl (f .sizes .stateWhole) refl;
             started = f .started;
           })
 

@@ -7,10 +7,10 @@ use lib.ListN.{length, take, drop}
 use Rattle.sizes.specs.Sizes.{longestRecord}
 use Rattle.report.specs.Program.{recordBytes, restAfter}
 
--- a test of the bytes that are held; where more are needed, they are fewer than the longest record
-pub record Tells (r : Bool) (test : Bool) (enough : Bool) (bytes : List ℕ) : Type 0 where
+-- a test of the bytes that are held; where its answer means that more are needed, they are fewer than the longest record has
+pub record Tells (r test lacks : Bool) (bytes : List ℕ) : Type 0 where
   pub same : r ≡ test
-  pub few : r ≡ enough → length bytes < longestRecord
+  pub few : r ≡ lacks → length bytes < longestRecord
 
 -- where the next record ends: its bytes, and the input after it
 pub record RecordEnd (rest : List ℕ) (size : ℕ) : Type 0 where

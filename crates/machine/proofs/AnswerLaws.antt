@@ -7,7 +7,7 @@ use native.Mathlib.Omega.{arith}
 use lib.Dec.{leb}
 use lib.ListN.{length, take, drop, length-take, length-drop}
 use lib.Seq.{length-take-le}
-use Rattle.sizes.specs.Sizes.{tableBytes}
+use Rattle.sizes.specs.Sizes.{stateNumbers, tableBytes}
 use Rattle.refusal.specs.Refusals.{number}
 use Rattle.refusal.specs.Answers.{accepted}
 use Rattle.refusal.specs.declared.Refusal.{Refusal}
@@ -34,8 +34,8 @@ use Rattle.progress.specs.declared.Progress.{Progress}
 use Rattle.input_parts.specs.Parts.{RecordEnd}
 use Rattle.progress.specs.Places.{heldIn, afterTable, afterRefusal, afterRecord, afterStop}
 use Rattle.progress.proofs.PlacesLaws.{window-later}
-use Rattle.machine.specs.Buffers.{BuffersFit, WorkingSpace, TableDue, RecordDue}
-use Rattle.machine.specs.Turns.{Answered}
+use Rattle.machine.specs.Buffers.{BufferSizes, BuffersFit, WorkingSpace, TableDue, RecordDue}
+use Rattle.machine.specs.Turns.{HeldAnswered}
 
 -- the bytes that are read and not used yet
 abbrev pub unusedIn : Progress → List ℕ → List ℕ
@@ -48,6 +48,25 @@ unused-few p input = rw length-take (omega arith)
 -- and all of these, where they lie within the buffer
 pub unused-all : (p : Progress) (input : List ℕ) → p .have ≤ length input → length (unusedIn p input) ≡ p .have - p .from
 unused-all p input h = rw (length-take, length-drop) (omega arith)
+
+-- buffers keep their sizes
+pub sizes-kept :
+    {input table weights out input′ table′ weights′ out′ : List ℕ} {state state′ : State}
+    → BufferSizes input table weights state out
+    → length input′ ≡ length input
+    → length table′ ≡ length table
+    → length weights′ ≡ length weights
+    → length state′ ≡ stateNumbers
+    → length out′ ≡ length out
+    → BufferSizes input′ table′ weights′ state′ out′
+sizes-kept h i t w s o =
+    record {
+      inputWhole = i ∙ h .inputWhole;
+      tableWhole = t ∙ h .tableWhole;
+      weightsWhole = w ∙ h .weightsWhole;
+      stateWhole = s;
+      textWhole = o ∙ h .textWhole;
+    }
 
 -- what is not 0 is more
 pub positive : (n : ℕ) → (n ≡ 0 → ⊥) → 0 < n
@@ -68,10 +87,10 @@ module _ (h : Held) where
 pub answered-as :
     {h : Held} {p r : Progress} {input table weights : List ℕ} {state : State} {out : List ℕ}
     → r ≡ p
-    → Answered h p input table weights state out
-    → Answered h r input table weights state out
+    → HeldAnswered h p input table weights state out
+    → HeldAnswered h r input table weights state out
 answered-as {h} {p} {r} {input} {table} {weights} {state} {out} e a =
-    subst (λ (q : Progress). Answered h q input table weights state out) (sym e) a
+    subst (λ (q : Progress). HeldAnswered h q input table weights state out) (sym e) a
 
 -- ---- the table
 
@@ -80,21 +99,21 @@ module _
     (f : BuffersFit p input table weights state out) (d : TableDue p) (t : TableStart) (later : List ℕ) (after : State)
     (o : StartedOnInput (unusedIn p input) state t later after) (full : length later ≡ length weights) where
   short : t .verdict ≡ Accepted → t .length ≤ tableBytes
-  short v = started-input-short _ _ _ _ _ (f .stateWhole) o v
+  short v = started-input-short _ _ _ _ _ (f .sizes .stateWhole) o v
 
   whole : length (take (t .length) (unusedIn p input)) ≡ t .length
   whole = length-take-le (t .length) (unusedIn p input) (o .within)
 
   -- there is room for an accepted table
   pub table-room : t .verdict ≡ Accepted → 0 + length (take (t .length) (unusedIn p input)) ≤ length table
-  table-room v = omega (arith, short v, whole, f .tableWhole)
+  table-room v = omega (arith, short v, whole, f .sizes .tableWhole)
 
   pub table-accepted :
       t .verdict ≡ Accepted
       → (kept : List ℕ) (end : ℕ)
       → Put table 0 (take (t .length) (unusedIn p input)) kept end
       → length kept ≡ length table
-      → Answered (heldIn p input table state out) (afterTable p (t .counts) (t .length)) input kept later after out
+      → HeldAnswered (heldIn p input table state out) (afterTable p (t .counts) (t .length)) input kept later after out
   unfolding heldIn tableAnswered
   table-accepted v kept end put same =
       let ends : end ≡ t .length = omega (arith, put .ends, whole) in
@@ -109,18 +128,14 @@ module _
               inside = f .inside;
               tableInside = short v;
               textInside = f .textInside;
-              inputWhole = f .inputWhole;
-              tableWhole = same ∙ f .tableWhole;
-              weightsWhole = full ∙ f .weightsWhole;
-              stateWhole = started-input-length _ _ _ _ _ (f .stateWhole) o v;
-              textWhole = f .textWhole;
+              sizes = sizes-kept (f .sizes) refl same full (started-input-length _ _ _ _ _ (f .sizes .stateWhole) o v) refl;
               started =
                   λ j some.
                   rw bytes
                   (record {
-                    kept = started-input-kept _ _ _ _ _ (f .stateWhole) o v;
+                    kept = started-input-kept _ _ _ _ _ (f .sizes .stateWhole) o v;
                     weighed = o .fits v;
-                    stateKept = started-input-fits _ _ _ _ _ (f .stateWhole) o v;
+                    stateKept = started-input-fits _ _ _ _ _ (f .sizes .stateWhole) o v;
                   });
             };
       }
@@ -130,7 +145,7 @@ module _
       → t .verdict ≡ Refused k
       → TextAnswered a out (p .at) text (refusalLine 0 (number k)) (leb (number k) 10)
       → length text ≡ length out
-      → Answered (heldIn p input table state out) (afterRefusal p (a .end)) input table later after text
+      → HeldAnswered (heldIn p input table state out) (afterRefusal p (a .end)) input table later after text
   unfolding heldIn tableAnswered
   table-refused {k} a text v put same =
       let both = answered-not (t .verdict) after (inputAnswer (unusedIn p input) state) state (o .answered) v in
@@ -142,11 +157,7 @@ module _
               inside = f .inside;
               tableInside = f .tableInside;
               textInside = omega (arith, put .within, d .room);
-              inputWhole = f .inputWhole;
-              tableWhole = f .tableWhole;
-              weightsWhole = full ∙ f .weightsWhole;
-              stateWhole = ap length (both .1) ∙ f .stateWhole;
-              textWhole = same ∙ f .textWhole;
+              sizes = sizes-kept (f .sizes) refl refl full (ap length (both .1) ∙ f .sizes .stateWhole) same;
               started = λ j some. absurd (omega (arith, some));
             };
       }
@@ -168,7 +179,7 @@ module _
   -- input that stops before a record's first byte
   pub records-stopped :
       p .from ≡ p .have
-      → Answered (heldIn p input table state out) (afterStop p) input table weights state out
+      → HeldAnswered (heldIn p input table state out) (afterStop p) input table weights state out
   unfolding heldIn recordsAnswered stopped
   records-stopped e =
       let none : p .have - p .from ≡ 0 = omega arith in
@@ -181,11 +192,7 @@ module _
               inside = f .inside;
               tableInside = f .tableInside;
               textInside = f .textInside;
-              inputWhole = f .inputWhole;
-              tableWhole = f .tableWhole;
-              weightsWhole = f .weightsWhole;
-              stateWhole = f .stateWhole;
-              textWhole = f .textWhole;
+              sizes = f .sizes;
               started = λ j some. absurd (omega (arith, some));
             };
       }
@@ -196,11 +203,11 @@ module _
       let s = f .started (d .phase) (d .some) in
       record {
         weighed = s .weighed;
-        stateWhole = f .stateWhole;
+        stateWhole = f .sizes .stateWhole;
         stateKept = s .stateKept;
         spaceFull = tools .spaceWhole;
         digits = tools .digits;
-        room = omega (arith, d .room, f .textWhole);
+        room = omega (arith, d .room, f .sizes .textWhole);
       }
 
   module _
@@ -218,10 +225,10 @@ module _
         ∙ record-on (take (p .length) table) (take size (unusedIn p input)) state (f .started (d .phase) (d .some) .kept)
 
     pub record-answered :
-        Answered (heldIn p input table state out) (afterRecord p size (r .ended) (r .end)) input table weights after text
+        HeldAnswered (heldIn p input table state out) (afterRecord p size (r .ended) (r .end)) input table weights after text
     unfolding heldIn recordAnswered
     record-answered =
-        let all = unused-all p input (omega (arith, f .inside, f .inputWhole)) in
+        let all = unused-all p input (omega (arith, f .inside, f .sizes .inputWhole)) in
         let there : 0 < length (unusedIn p input) = positive _ (λ z. some (omega (arith, f .order, all, z))) in
         let rest = window-later (p .from) (p .have) size input ∙ sym (e .after) in
         let next = record-left _ _ _ _ _ _ _ _ _ (due-ready space fours tools) (a .left) in
@@ -242,11 +249,7 @@ module _
                 inside = f .inside;
                 tableInside = f .tableInside;
                 textInside = omega (arith, a .answered .within, d .room);
-                inputWhole = f .inputWhole;
-                tableWhole = f .tableWhole;
-                weightsWhole = f .weightsWhole;
-                stateWhole = next .0;
-                textWhole = same ∙ f .textWhole;
+                sizes = sizes-kept (f .sizes) refl refl refl (next .0) same;
                 started = λ j few. record { kept = f .started (d .phase) (d .some) .kept; weighed = f .started (d .phase) (d .some) .weighed; stateKept = next .1 };
               };
         }

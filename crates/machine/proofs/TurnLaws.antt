@@ -14,11 +14,11 @@ use Rattle.program_run.specs.Machine as definition
 use Rattle.program_run.specs.Machine.{Held, lacking, wantsMore, noneLeft, ended, goesOut, textDue, next, afterNext}
 use Rattle.progress.specs.declared.Progress.{Progress}
 use Rattle.input_parts.specs.Parts.{Tells}
-use Rattle.progress.specs.Places.{heldIn, Emptied, MovedFront}
+use Rattle.progress.specs.Places.{heldIn, TextWritten, MovedFront}
 use Rattle.machine.specs.declared.Next.the-variants.{Write, End, Read, Answer}
 use Rattle.machine.specs.Buffers.{BuffersFit, AnswerDue, RecordDue}
-use Rattle.machine.specs.Turns.{Answered, Turned}
-use Rattle.machine.proofs.AnswerLaws.{unused-all, positive}
+use Rattle.machine.specs.Turns.{HeldAnswered, Turned}
+use Rattle.machine.proofs.AnswerLaws.{sizes-kept, unused-all, positive}
 
 -- ---- what an answer asks
 
@@ -66,7 +66,7 @@ module _
 
   size-as : length (held .text) ≡ p .at
   unfolding heldIn
-  size-as = length-take-le (p .at) out (omega (arith, f .textInside, f .textWhole))
+  size-as = length-take-le (p .at) out (omega (arith, f .textInside, f .sizes .textWhole))
 
   due-as : due ≡ textDue held
   unfolding textDue
@@ -75,7 +75,7 @@ module _
   pub turn-write :
       (r : Progress)
       → due ≡ true
-      → Emptied p r
+      → TextWritten p r
       → Turned held (record { progress = r; next = Write (p .at) }) input table weights state out
   unfolding heldIn afterNext
   turn-write r goes m =
@@ -90,15 +90,11 @@ module _
               inside = f .inside;
               tableInside = f .tableInside;
               textInside = omega arith;
-              inputWhole = f .inputWhole;
-              tableWhole = f .tableWhole;
-              weightsWhole = f .weightsWhole;
-              stateWhole = f .stateWhole;
-              textWhole = f .textWhole;
+              sizes = f .sizes;
               started = f .started;
             });
         read = λ at k. absurd (let z : _≡_ {A = ℕ} 0 1 = cc in omega arith);
-        write = λ size k. let z : p .at ≡ size = cc in omega (arith, f .textInside, f .textWhole);
+        write = λ size k. let z : p .at ≡ size = cc in omega (arith, f .textInside, f .sizes .textWhole);
       }
 
   pub turn-end : due ≡ false → none ≡ true → Turned held (record { progress = p; next = End }) input table weights state out
@@ -135,14 +131,10 @@ module _
               inside = omega (arith, f .inside);
               tableInside = f .tableInside;
               textInside = f .textInside;
-              inputWhole = same ∙ f .inputWhole;
-              tableWhole = f .tableWhole;
-              weightsWhole = f .weightsWhole;
-              stateWhole = f .stateWhole;
-              textWhole = f .textWhole;
+              sizes = sizes-kept (f .sizes) same refl refl (f .sizes .stateWhole) refl;
               started = f .started;
             });
-        read = λ at k. let z : r .have ≡ at = cc in record { place = sym z; room = omega (arith, few, ap (λ (q : Progress). q .have) (m .same), unused-all p input (omega (arith, f .inside, f .inputWhole))) };
+        read = λ at k. let z : r .have ≡ at = cc in record { place = sym z; room = omega (arith, few, ap (λ (q : Progress). q .have) (m .same), unused-all p input (omega (arith, f .inside, f .sizes .inputWhole))) };
         write = λ size k. absurd (let z : _≡_ {A = ℕ} 0 1 = cc in omega arith);
       }
 
@@ -161,7 +153,7 @@ module _
       → due ≡ false
       → none ≡ false
       → wants ≡ false
-      → Answered held r input′ table′ weights′ state′ out′
+      → HeldAnswered held r input′ table′ weights′ state′ out′
       → Turned held (record { progress = r; next = Answer }) input′ table′ weights′ state′ out′
   unfolding afterNext
   turn-answer r input′ table′ weights′ state′ out′ stays some enough a =

@@ -23,17 +23,21 @@ pub record Started (bytes : List ℕ) (counts : Counts) (weights : List ℕ) (st
   pub weighed : Weighed bytes counts weights
   pub stateKept : stateFits (tableIn bytes) state ≡ true
 
--- the buffers have their sizes, and what is held lies within them; while records are left, they are answered on an accepted table
-pub record BuffersFit (p : Progress) (input table weights : List ℕ) (state : State) (out : List ℕ) : Type 0 where
-  pub order : p .from ≤ p .have
-  pub inside : p .have ≤ inputBuffer
-  pub tableInside : p .length ≤ tableBytes
-  pub textInside : p .at ≤ textBuffer
+-- the buffers have their sizes
+pub record BufferSizes (input table weights : List ℕ) (state : State) (out : List ℕ) : Type 0 where
   pub inputWhole : length input ≡ inputBuffer
   pub tableWhole : length table ≡ tableBytes
   pub weightsWhole : length weights ≡ mostElements
   pub stateWhole : length state ≡ stateNumbers
   pub textWhole : length out ≡ textBuffer
+
+-- what is held lies within them; while records are left, they are answered on an accepted table
+pub record BuffersFit (p : Progress) (input table weights : List ℕ) (state : State) (out : List ℕ) : Type 0 where
+  pub sizes : BufferSizes input table weights state out
+  pub order : p .from ≤ p .have
+  pub inside : p .have ≤ inputBuffer
+  pub tableInside : p .length ≤ tableBytes
+  pub textInside : p .at ≤ textBuffer
   pub started : p .judged ≡ true → 0 < p .left → Started (take (p .length) table) (p .counts) weights state
 
 -- working space for a forecast, and the digits of 0 to 9,999

@@ -22,7 +22,7 @@ nextIn (Read at) out = definition.read
 nextIn Answer out = definition.answer
 
 -- the table or a record is answered
-pub record Answered
+pub record HeldAnswered
     (h : Held) (r : Progress) (input table weights : List ℕ) (state : State) (out : List ℕ)
     : Type 0 where
   pub held : heldIn r input table state out ≡ answered h

@@ -1,7 +1,7 @@
 // The program as a machine on lent buffers: each call does the next thing and says what it was.
 ghost use Rattle.progress.specs.Places.{heldIn};
 ghost use Rattle.machine.specs.Buffers.{BuffersFit, WorkingSpace, TableDue, RecordDue, AnswerDue};
-ghost use Rattle.machine.specs.Turns.{Answered, Turned};
+ghost use Rattle.machine.specs.Turns.{HeldAnswered, Turned};
 use input_parts::record_length;
 use input_parts::wants_more;
 use progress::Progress;
@@ -44,7 +44,7 @@ fn table_answered(
     out: &mut [u8],
 ) -> Progress
     requires { ⌜ BuffersFit p (now input) (now table) (now weights) (now state) (now out) × TableDue p ⌝ }
-    ensures { λ r. ⌜ Answered (heldIn p (now (input .entry)) (now (table .entry)) (now (state .entry)) (now (out .entry))) r (now (input .entry)) (now (table .exit)) (now (weights .exit)) (now (state .exit)) (now (out .exit)) ⌝ }
+    ensures { λ r. ⌜ HeldAnswered (heldIn p (now (input .entry)) (now (table .entry)) (now (state .entry)) (now (out .entry))) r (now (input .entry)) (now (table .exit)) (now (weights .exit)) (now (state .exit)) (now (out .exit)) ⌝ }
 {
     let from = p.from;
     let have = p.have;
@@ -77,7 +77,7 @@ fn next_answered(
     out: &mut [u8],
 ) -> Progress
     requires { ⌜ BuffersFit p (now input) (now table) (now weights) (now state) (now out) × (WorkingSpace (now space) (now fours) × RecordDue p) ⌝ }
-    ensures { λ r. ⌜ Answered (heldIn p (now (input .entry)) (now (table .entry)) (now (state .entry)) (now (out .entry))) r (now (input .entry)) (now (table .entry)) (now (weights .entry)) (now (state .exit)) (now (out .exit)) ⌝ }
+    ensures { λ r. ⌜ HeldAnswered (heldIn p (now (input .entry)) (now (table .entry)) (now (state .entry)) (now (out .entry))) r (now (input .entry)) (now (table .entry)) (now (weights .entry)) (now (state .exit)) (now (out .exit)) ⌝ }
 {
     let from = p.from;
     let have = p.have;
@@ -113,7 +113,7 @@ fn answered(
     out: &mut [u8],
 ) -> Progress
     requires { ⌜ BuffersFit p (now input) (now table) (now weights) (now state) (now out) × (WorkingSpace (now space) (now fours) × AnswerDue p) ⌝ }
-    ensures { λ r. ⌜ Answered (heldIn p (now (input .entry)) (now (table .entry)) (now (state .entry)) (now (out .entry))) r (now (input .entry)) (now (table .exit)) (now (weights .exit)) (now (state .exit)) (now (out .exit)) ⌝ }
+    ensures { λ r. ⌜ HeldAnswered (heldIn p (now (input .entry)) (now (table .entry)) (now (state .entry)) (now (out .entry))) r (now (input .entry)) (now (table .exit)) (now (weights .exit)) (now (state .exit)) (now (out .exit)) ⌝ }
 {
     if p.judged {
         return next_answered(p, input, &*table, &*weights, state, space, fours, out);
@@ -140,27 +140,20 @@ pub fn proceed(
     let wants = wants_more(p.judged, p.over, &input[from..have]);
     let ended = has_ended(p.judged, p.left);
     if text_due(ended, wants, p.at) {
-        return Turn {
-            progress: after_write(p),
-            next: Next::Write(p.at),
-        };
+        let progress = after_write(p);
+        let next = Next::Write(p.at);
+        return Turn { progress, next };
     }
     if ended {
-        return Turn {
-            progress: p,
-            next: Next::End,
-        };
+        let next = Next::End;
+        return Turn { progress: p, next };
     }
     if wants {
-        let after = moved_front(p, input);
-        return Turn {
-            progress: after,
-            next: Next::Read(after.have),
-        };
+        let progress = moved_front(p, input);
+        let next = Next::Read(progress.have);
+        return Turn { progress, next };
     }
-    let after = answered(p, &*input, table, weights, state, space, fours, out);
-    Turn {
-        progress: after,
-        next: Next::Answer,
-    }
+    let progress = answered(p, &*input, table, weights, state, space, fours, out);
+    let next = Next::Answer;
+    Turn { progress, next }
 }

@@ -7,7 +7,7 @@ use native.Mathlib.Omega.{arith}
 use borrow.Author.Tests.{not-false}
 use lib.ListN.{length}
 use Rattle.program_run.specs.Machine.{Held, first, tableHeld, recordHeld, lacking, wantsMore, Next, write, end, read, answer, next, written, answered, afterNext, given, closed}
-use Rattle.program_run.specs.Pieces.{joined, Written, writtenFirst, turn, loop, Prints}
+use Rattle.program_run.specs.Pieces.{joinedPieces, Written, writtenFirst, turn, loop, Prints}
 use Rattle.program_run.proofs.NextLaws.{write-next, end-next, read-next, read-open, answer-next}
 use Rattle.program_run.proofs.HeldLaws.{Ready, whole, last}
 use Rattle.program_run.proofs.ToPrintLaws.{toPrint, first-to-print, end-to-print, written-to-print, given-to-print, closed-to-print, answer-to-print}
@@ -19,7 +19,7 @@ done text = record { text = text; ended = true }
 
 -- no input comes after its end
 record Ends (over : Bool) (pieces : List (List ℕ)) : Type 0 where
-  nothing : over ≡ true → joined pieces ≡ []
+  nothing : over ≡ true → joinedPieces pieces ≡ []
 
 still-open : {over : Bool} (pieces : List (List ℕ)) → over ≡ false → Ends over pieces
 still-open pieces e = record { nothing = λ h. absurd (true≢false (sym h ∙ e)) }
@@ -29,7 +29,7 @@ held-ready :
     (judged over : Bool) (unused : List ℕ) (pieces : List (List ℕ))
     → Ends over pieces
     → lacking judged over unused ≡ false
-    → Ready (cond judged (recordHeld unused) (tableHeld unused)) (joined pieces)
+    → Ready (cond judged (recordHeld unused) (tableHeld unused)) (joinedPieces pieces)
 unfolding lacking
 held-ready judged true unused pieces e h = last (e .nothing refl)
 held-ready true false unused pieces e h = whole (not-false _ h)
@@ -38,7 +38,7 @@ held-ready false false unused pieces e h = whole (not-false _ h)
 -- so many turns do all that is to be done
 Enough : ℕ → Held → List (List ℕ) → Type 0
 Enough turns h pieces =
-    size h + length pieces < turns → Ends (h .over) pieces → loop turns h pieces ≡ done (toPrint h (joined pieces))
+    size h + length pieces < turns → Ends (h .over) pieces → loop turns h pieces ≡ done (toPrint h (joinedPieces pieces))
 
 -- one turn more, where the turns after it are enough
 module _ (turns : ℕ) (after : (h : Held) (pieces : List (List ℕ)) → Enough turns h pieces) (h : Held) where
@@ -47,21 +47,21 @@ module _ (turns : ℕ) (after : (h : Held) (pieces : List (List ℕ)) → Enough
       → size h + length pieces < suc turns
       → Ends (h .over) pieces
       → next h ≡ write text
-      → writtenFirst text (loop turns (written h) pieces) ≡ done (toPrint h (joined pieces))
+      → writtenFirst text (loop turns (written h) pieces) ≡ done (toPrint h (joinedPieces pieces))
   unfolding Enough writtenFirst written
   write-turn text pieces b e n =
       let less = write-less h text n in
       ap (writtenFirst text) (after (written h) pieces (omega arith) e)
-      ∙ ap done (rw (write-next h text n .0) (written-to-print h (joined pieces)))
+      ∙ ap done (rw (write-next h text n .0) (written-to-print h (joinedPieces pieces)))
 
-  end-turn : (pieces : List (List ℕ)) → next h ≡ end → done [] ≡ done (toPrint h (joined pieces))
-  end-turn pieces n = let k = end-next h n in ap done (sym (end-to-print h (joined pieces) (k .0) (k .1)))
+  end-turn : (pieces : List (List ℕ)) → next h ≡ end → done [] ≡ done (toPrint h (joinedPieces pieces))
+  end-turn pieces n = let k = end-next h n in ap done (sym (end-to-print h (joinedPieces pieces) (k .0) (k .1)))
 
   close-turn :
       size h + length {A = List ℕ} [] < suc turns
       → next h ≡ read
       → loop turns (closed h) [] ≡ done (toPrint h [])
-  unfolding Enough joined
+  unfolding Enough joinedPieces
   close-turn b n =
       let less = closed-less h n in
       after (closed h) [] (omega arith) (record { nothing = λ e. refl }) ∙ ap done (closed-to-print h [])
@@ -70,32 +70,32 @@ module _ (turns : ℕ) (after : (h : Held) (pieces : List (List ℕ)) → Enough
       (piece : List ℕ) (rest : List (List ℕ))
       → size h + length (piece ∷ rest) < suc turns
       → next h ≡ read
-      → loop turns (given h piece) rest ≡ done (toPrint h (piece ++ joined rest))
+      → loop turns (given h piece) rest ≡ done (toPrint h (piece ++ joinedPieces rest))
   unfolding Enough given
   read-turn piece rest b n =
       let less = given-no-more h piece in
-      after (given h piece) rest (omega arith) (still-open rest (read-open h n)) ∙ ap done (given-to-print h piece (joined rest))
+      after (given h piece) rest (omega arith) (still-open rest (read-open h n)) ∙ ap done (given-to-print h piece (joinedPieces rest))
 
   answer-turn :
       (pieces : List (List ℕ))
       → size h + length pieces < suc turns
       → Ends (h .over) pieces
       → next h ≡ answer
-      → loop turns (answered h) pieces ≡ done (toPrint h (joined pieces))
+      → loop turns (answered h) pieces ≡ done (toPrint h (joinedPieces pieces))
   unfolding Enough wantsMore
   answer-turn pieces b e n =
       let less = answer-less h n in
       let k = answer-next h n in
       after (answered h) pieces (omega arith) (rw (answered-over h) e)
-      ∙ ap done (sym (answer-to-print h (joined pieces) (k .0) (held-ready (h .judged) (h .over) (h .unused) pieces e (k .1))))
+      ∙ ap done (sym (answer-to-print h (joinedPieces pieces) (k .0) (held-ready (h .judged) (h .over) (h .unused) pieces e (k .1))))
 
   any-turn :
       (n : Next) (pieces : List (List ℕ))
       → size h + length pieces < suc turns
       → Ends (h .over) pieces
       → next h ≡ n
-      → turn (loop turns) n (afterNext n h) pieces ≡ done (toPrint h (joined pieces))
-  unfolding turn afterNext joined
+      → turn (loop turns) n (afterNext n h) pieces ≡ done (toPrint h (joinedPieces pieces))
+  unfolding turn afterNext joinedPieces
   any-turn (write text) pieces b e n = write-turn text pieces b e n
   any-turn end pieces b e n = end-turn pieces n
   any-turn read [] b e n = close-turn b n
@@ -119,7 +119,7 @@ the-program pieces =
     let turns = suc (size first + length pieces) in
     record {
       turns = turns;
-      all = enough turns first pieces (omega arith) (first-open pieces) ∙ ap done (first-to-print (joined pieces));
+      all = enough turns first pieces (omega arith) (first-open pieces) ∙ ap done (first-to-print (joinedPieces pieces));
     }
 
 -- all text is handed over before input is asked for, and it is asked for only where the table or the next record is not whole

@@ -8,9 +8,9 @@ use Rattle.report.specs.Program.{program}
 use Rattle.program_run.specs.Machine.{Held, first, Next, write, end, read, answer, next, afterNext, given, closed}
 
 -- the input that was cut into these pieces; a piece may be empty
-unfoldable pub joined : List (List ℕ) → List ℕ
-joined [] = []
-joined (piece ∷ rest) = piece ++ joined rest
+unfoldable pub joinedPieces : List (List ℕ) → List ℕ
+joinedPieces [] = []
+joinedPieces (piece ∷ rest) = piece ++ joinedPieces rest
 
 pub record Written : Type 0 where
   pub text : List ℕ
@@ -36,4 +36,4 @@ loop (suc turns) h pieces = turn (loop turns) (next h) (afterNext (next h) h) pi
 -- after some turns the loop has ended, and has written all that document 01 says of the whole input
 pub record Prints (pieces : List (List ℕ)) : Type 0 where
   pub turns : ℕ
-  pub all : loop turns first pieces ≡ record { text = program (joined pieces); ended = true }
+  pub all : loop turns first pieces ≡ record { text = program (joinedPieces pieces); ended = true }

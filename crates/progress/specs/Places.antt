@@ -135,7 +135,7 @@ afterStop p =
 
 -- ---- and what is then held
 
-pub record Emptied (p r : Progress) : Type 0 where
+pub record TextWritten (p r : Progress) : Type 0 where
   pub same : r ≡ afterWrite p
   pub held :
       (input table : List ℕ) (state : State) (out : List ℕ)

@@ -4,7 +4,7 @@ ghost use mathlib.Core.Path.{_≡_};
 ghost use Prim.Native.Nat.{_+_, _-_, _≤_, _<_};
 ghost use Rattle.sizes.specs.Sizes.{inputBuffer};
 ghost use Rattle.program_run.specs.Machine.{noneLeft, goesOut};
-ghost use Rattle.progress.specs.Places.{FirstProgress, afterTable, afterRefusal, afterRecord, afterStop, Emptied, WindowFits, MovedFront, ReadIn};
+ghost use Rattle.progress.specs.Places.{FirstProgress, afterTable, afterRefusal, afterRecord, afterStop, TextWritten, WindowFits, MovedFront, ReadIn};
 use input_parts::move_front;
 use sizes::MOST_RECORDS;
 use sizes::TEXT_BUFFER;
@@ -76,7 +76,7 @@ pub fn text_due(ended: bool, wants: bool, at: usize) -> bool
 
 // The text is handed over.
 pub fn after_write(p: Progress) -> Progress
-    ensures { λ r. ⌜ Emptied p r ⌝ }
+    ensures { λ r. ⌜ TextWritten p r ⌝ }
 {
     let mut after = p;
     after.at = 0;

@@ -30,7 +30,7 @@ record-length-requires c κs = search needs
 
 slice-aggregate-answer-record : tie.Need-slice-aggregate-answer-record
 slice-aggregate-answer-record c =
-    let f = c .before .before .before .before .before .before .before .before .before .before .pre .0 in sym (length-take-le _ _ (omega (arith, f .tableInside, f .tableWhole)))
+    let f = c .before .before .before .before .before .before .before .before .before .before .pre .0 in sym (length-take-le _ _ (omega (arith, f .tableInside, f .sizes .tableWhole)))
 
 slice-aggregate-answer-record-2 : tie.Need-slice-aggregate-answer-record-2
 slice-aggregate-answer-record-2 c = sym (length-take-le _ _ (c .before .before .record-length .ensures .within))
