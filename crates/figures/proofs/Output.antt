@@ -23,8 +23,8 @@ use Rattle.table.specs.Basins.{basinsBefore, basinCount}
 use Rattle.elements.specs.Kinds.{basinOf}
 use Rattle.record.specs.Rules.{rainFits, stageFits, isAccepted, readingFits, recordRules}
 use Rattle.record.specs.Rules as record-rules
-use Rattle.report.specs.Program.{recordBytes, restAfter, recordsText, runText, program}
-use Rattle.report.specs.Records.{figuresLines, refusalPrinted, forecastPrinted, stepPrinted, recordPrinted}
+use Rattle.program.specs.Program.{recordBytes, restAfter, recordsText, runText, program}
+use Rattle.program.specs.Records.{figuresLines, refusalPrinted, forecastPrinted, stepPrinted, recordPrinted}
 use Rattle.state.specs.Rules.{figuresFit, rainsFit, placeFits, stateFits, stepsLeft}
 use Rattle.state.specs.Start.{firstFigures, firstPut, started}
 use Rattle.state.specs.States.{figuresOf, rainsOf, placeOf, putFigures, putRains, putPlace, changed}

@@ -15,7 +15,7 @@ use Rattle.method.specs.Figures.{figures}
 use Rattle.method.specs.Correction.{gain, corrected}
 use Rattle.state.specs.States.{State}
 use Rattle.entries.specs.Entries.{startAnswer}
-use Rattle.report.specs.Program.{program}
+use Rattle.program.specs.Program.{program}
 
 -- a piece of a rating curve: top, a and b
 abbrev pub piece : ℕ → ℕ → Offset → Piece

@@ -7,7 +7,7 @@ use native.Mathlib.Nat.{le-refl}
 use lib.ListN.{length, take, drop, drop-of-length-le}
 use lib.Seq.{take-all}
 use Rattle.fields.specs.Bytes.{number16}
-use Rattle.report.specs.Program.{recordBytes, restAfter}
+use Rattle.program.specs.Program.{recordBytes, restAfter}
 use Rattle.input_parts.specs.Parts.{RecordEnd}
 
 pub whole-record : (rest : List ℕ) (n : ℕ) → n ≡ number16 rest 0 → n + 2 ≤ length rest → RecordEnd rest (n + 2)

@@ -5,7 +5,7 @@ use mathlib.Core.List.{List}
 use mathlib.Core.Path.{_≡_}
 use lib.ListN.{length, take, drop}
 use Rattle.sizes.specs.Sizes.{longestRecord}
-use Rattle.report.specs.Program.{recordBytes, restAfter}
+use Rattle.program.specs.Program.{recordBytes, restAfter}
 
 -- a test of the bytes that are held; where its answer means that more are needed, they are fewer than the longest record has
 pub record Tells (r test lacks : Bool) (bytes : List ℕ) : Type 0 where

@@ -1,9 +1,6 @@
 // The parts of the program's input, in the bytes that are read and not used yet: whether the table or a record is whole, and where a
 // record ends.
 ghost use mathlib.Core.Bool.{true, false};
-ghost use mathlib.Core.Path.{_≡_};
-ghost use Prim.Native.Nat.{_+_, _≤_};
-ghost use lib.ListN.{length, take, drop};
 ghost use Rattle.program_run.specs.Machine.{tableHeld, recordHeld, lacking};
 ghost use Rattle.input_parts.specs.Parts.{Tells, RecordEnd};
 use fields::bytes::read16;
@@ -56,16 +53,4 @@ pub fn wants_more(judged: bool, over: bool, unused: &[u8]) -> bool
         return !holds_record(unused);
     }
     !holds_table(unused)
-}
-
-// The bytes from a place on, moved to the front.
-pub fn move_front(input: &mut [u8], from: usize, count: usize)
-    requires { ⌜ from + count ≤ length (now input) ⌝ }
-    ensures { λ r. ⌜ take count (now (input .exit)) ≡ take count (drop from (now (input .entry))) ⌝ }
-{
-    let mut i = 0;
-    while i < count {
-        input[i] = input[from + i];
-        i += 1;
-    }
 }

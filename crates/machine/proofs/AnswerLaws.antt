@@ -25,8 +25,8 @@ use Rattle.refusal_answer.specs.Answers.{TextAnswered}
 use Rattle.table_input.specs.Starts.{StartedOnInput}
 use Rattle.table_input.specs.declared.TableStart.{TableStart}
 use Rattle.table_input.proofs.StartsLaws.{started-input-kept, started-input-short, started-input-fits, started-input-length}
-use Rattle.report.specs.Records.{Printed, recordPrinted, recordOnPrinted}
-use Rattle.report.specs.Program.{recordBytes}
+use Rattle.program.specs.Records.{Printed, recordPrinted, recordOnPrinted}
+use Rattle.program.specs.Program.{recordBytes}
 use Rattle.report.specs.Answers.{RecordReady, Reported}
 use Rattle.report.proofs.ReportLaws.{record-on, record-left}
 use Rattle.program_run.specs.Machine.{Held, stopped, tableAnswered, recordAnswered, recordsAnswered, answered}

@@ -14,7 +14,7 @@ use Rattle.refusal.proofs.RuleLaws.{not-both}
 use Rattle.fields.specs.Bytes.{byteAt, number16, number32}
 use Rattle.state.specs.States.{State}
 use Rattle.table_input.specs.Start.{tablePart, inputAnswer}
-use Rattle.report.specs.Program.{recordBytes, restAfter}
+use Rattle.program.specs.Program.{recordBytes, restAfter}
 use Rattle.program_run.specs.Machine.{tableHeld, recordHeld}
 
 -- it is held whole, or nothing comes after what is held

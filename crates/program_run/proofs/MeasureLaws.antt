@@ -10,8 +10,8 @@ use Rattle.sizes.specs.Sizes.{longestRecord}
 use Rattle.refusal.specs.Answers.{Answer, accepted, refused}
 use Rattle.state.specs.States.{State}
 use Rattle.table_input.specs.Start.{inputAnswer}
-use Rattle.report.specs.Records.{recordPrinted}
-use Rattle.report.specs.Program.{recordBytes}
+use Rattle.program.specs.Records.{recordPrinted}
+use Rattle.program.specs.Program.{recordBytes}
 use Rattle.program_run.specs.Machine.{Held, noneLeft, ended, write, read, answer, next, written, tableAnswered, recordAnswered, stopped, recordsAnswered, answered, given, closed}
 use Rattle.program_run.proofs.NextLaws.{write-next, read-open, answer-next}
 

@@ -12,8 +12,8 @@ use Rattle.fields.specs.Bytes.{number32}
 use Rattle.state.specs.States.{State}
 use Rattle.table_input.specs.Start.{tablePart, emptyState, inputAnswer}
 use Rattle.lines.specs.Printed.{refusalLine}
-use Rattle.report.specs.Records.{Printed, recordPrinted}
-use Rattle.report.specs.Program.{recordBytes, restAfter, recordsText, runText, program}
+use Rattle.program.specs.Records.{Printed, recordPrinted}
+use Rattle.program.specs.Program.{recordBytes, restAfter, recordsText, runText, program}
 use Rattle.program_run.specs.Machine.{Held, first, tableHeld, recordHeld, noneLeft, ended, written, tableAnswered, recordAnswered, stopped, recordsAnswered, answered, given, closed}
 use Rattle.program_run.proofs.HeldLaws.{Ready, TableWhole, RecordWhole, table-whole, record-whole, nothing-held}
 

@@ -11,8 +11,8 @@ use Rattle.fields.specs.Bytes.{number16, number32}
 use Rattle.state.specs.States.{State}
 use Rattle.table_input.specs.Start.{tablePart, emptyState, inputAnswer}
 use Rattle.lines.specs.Printed.{refusalLine}
-use Rattle.report.specs.Records.{Printed, recordPrinted}
-use Rattle.report.specs.Program.{recordBytes, restAfter}
+use Rattle.program.specs.Records.{Printed, recordPrinted}
+use Rattle.program.specs.Program.{recordBytes, restAfter}
 
 -- what the program holds: whether the table has been judged, the input that is read and not used yet, whether the input has ended,
 -- how many records are left to be answered, the accepted table, the river's state, and the text that is not handed over yet

@@ -4,7 +4,7 @@ use Prim.Native.Nat.{ℕ, zero, suc}
 use mathlib.Core.Bool.{Bool, true, false}
 use mathlib.Core.List.{List, [], _∷_, _++_}
 use mathlib.Core.Path.{_≡_}
-use Rattle.report.specs.Program.{program}
+use Rattle.program.specs.Program.{program}
 use Rattle.program_run.specs.Machine.{Held, first, Next, write, end, read, answer, next, afterNext, given, closed}
 
 -- the input that was cut into these pieces; a piece may be empty

@@ -1,2 +1,3 @@
+pub mod MoveLaws
 pub mod TestLaws
 pub mod PlacesLaws

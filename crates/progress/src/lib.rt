@@ -2,10 +2,10 @@
 ghost use mathlib.Core.Bool.{cond};
 ghost use mathlib.Core.Path.{_≡_};
 ghost use Prim.Native.Nat.{_+_, _-_, _≤_, _<_};
+ghost use lib.ListN.{length, take, drop};
 ghost use Rattle.sizes.specs.Sizes.{inputBuffer};
 ghost use Rattle.program_run.specs.Machine.{noneLeft, goesOut};
 ghost use Rattle.progress.specs.Places.{FirstProgress, afterTable, afterRefusal, afterRecord, afterStop, TextWritten, WindowFits, MovedFront, ReadIn};
-use input_parts::move_front;
 use sizes::MOST_RECORDS;
 use sizes::TEXT_BUFFER;
 use sizes::TEXT_BYTES;
@@ -138,6 +138,18 @@ pub fn after_stop(p: Progress) -> Progress
     let mut after = p;
     after.left = 0;
     after
+}
+
+// The bytes from a place on, moved to the front.
+fn move_front(input: &mut [u8], from: usize, count: usize)
+    requires { ⌜ from + count ≤ length (now input) ⌝ }
+    ensures { λ r. ⌜ take count (now (input .exit)) ≡ take count (drop from (now (input .entry))) ⌝ }
+{
+    let mut i = 0;
+    while i < count {
+        input[i] = input[from + i];
+        i += 1;
+    }
 }
 
 // The bytes that are not used yet, moved to the front, so that there is room for more after them.

@@ -35,7 +35,7 @@ use Rattle.lines.specs.Printed.{answerLines, refusalLine}
 use Rattle.lines.proofs.PrintedLaws.{lines-before}
 use Rattle.refusal_answer.specs.declared.TextAnswer.{TextAnswer}
 use Rattle.refusal_answer.specs.Answers.{TextAnswered}
-use Rattle.report.specs.Records.{Printed, figuresLines, refusalPrinted, forecastPrinted, stepPrinted, recordPrinted, recordOnPrinted}
+use Rattle.program.specs.Records.{Printed, figuresLines, refusalPrinted, forecastPrinted, stepPrinted, recordPrinted, recordOnPrinted}
 use Rattle.report.specs.Answers.{RecordReady, TextAnsweredOf, Reported}
 use Rattle.report.proofs.FiguresLaws.{ForecastShown, few-lines}
 

@@ -13,7 +13,7 @@ use Rattle.element_weights.specs.Weights.{Weighed}
 use Rattle.text.specs.Fours.{foursBelow}
 use Rattle.refusal_answer.specs.declared.TextAnswer.{TextAnswer}
 use Rattle.refusal_answer.specs.Answers.{TextAnswered}
-use Rattle.report.specs.Records.{Printed}
+use Rattle.program.specs.Records.{Printed}
 
 -- an accepted table with its counts and weights, a state that rule 8 accepts, working space for a forecast, the digits of
 -- 0 to 9,999, and room for a record's text

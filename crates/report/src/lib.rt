@@ -2,7 +2,7 @@
 ghost use Rattle.sizes.specs.Sizes.{answerNumbers};
 ghost use Rattle.table.specs.InUse.{tableIn};
 ghost use Rattle.entries.specs.Entries.{forecastOnAnswer};
-ghost use Rattle.report.specs.Records.{forecastPrinted, recordOnPrinted};
+ghost use Rattle.program.specs.Records.{forecastPrinted, recordOnPrinted};
 ghost use Rattle.report.specs.Answers.{RecordReady, TextAnsweredOf, Reported};
 use lines::put_lines;
 use network::ForecastAnswer;

@@ -4,9 +4,9 @@ use mathlib.Core.Path.{_≡_, refl}
 use native.Mathlib.Omega.{arith}
 use borrow.Author.Needs.{needs}
 use lib.ListN.{length, take, drop, length-set}
-use Rattle.input_parts.proofs.MoveLaws.{moved-more, rest-more}
-use Rattle.input_parts.proofs.move_front.Statement.{statement}
-use Rattle.input_parts.proofs.move_front.Tie as tie
+use Rattle.progress.proofs.MoveLaws.{moved-more, rest-more}
+use Rattle.progress.proofs.move_front.Statement.{statement}
+use Rattle.progress.proofs.move_front.Tie as tie
 
 abbrev Inv-loop : tie.InvT-loop
 Inv-loop input₀ from count i₀ input i =

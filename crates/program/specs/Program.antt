@@ -9,7 +9,7 @@ use Rattle.fields.specs.Bytes.{number16, number32}
 use Rattle.state.specs.States.{State}
 use Rattle.table_input.specs.Start.{tablePart, emptyState, inputAnswer}
 use Rattle.lines.specs.Printed.{refusalLine}
-use Rattle.report.specs.Records.{recordPrinted}
+use Rattle.program.specs.Records.{recordPrinted}
 
 -- "A record is judged on its two length bytes and as many bytes after them as these count, or on what is left where the input
 -- stops sooner."

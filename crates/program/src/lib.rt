@@ -1,0 +1,1 @@
+// What the program prints for an input: definitions.
