@@ -1,8 +1,8 @@
 -- Laws of the tests whether the table or a record is held whole.
 use Prim.Native.Nat.{ℕ, _+_, _≤_, _<_}
-use mathlib.Core.Bool.{Bool, true, false, not}
+use mathlib.Core.Bool.{Bool, true, false, not, cond}
 use mathlib.Core.List.{List}
-use mathlib.Core.Path.{_≡_, ap}
+use mathlib.Core.Path.{_≡_, refl, sym, ap, _∙_}
 use native.Mathlib.Omega.{arith}
 use borrow.Author.Tests.{leb-false, not-true, lt-ltb, le-ltb, le-leb, lt-leb}
 use lib.Dec.{leb}
@@ -11,6 +11,10 @@ use Rattle.sizes.specs.Sizes.{tableBytes}
 use Rattle.fields.specs.Bytes.{number16, number32}
 use Rattle.program_run.specs.Machine.{tableHeld, recordHeld, lacking}
 use Rattle.input_parts.specs.Parts.{Tells}
+
+not-either : (b x y : Bool) → not (cond b x y) ≡ cond b (not x) (not y)
+not-either true x y = refl
+not-either false x y = refl
 
 module _ (bytes : List ℕ) where
   pub record-told : (n : ℕ) → n ≡ number16 bytes 0 → n < 65536 → Tells (leb (n + 2) (length bytes)) (recordHeld bytes) false bytes
@@ -47,12 +51,15 @@ module _ (bytes : List ℕ) where
     unfolding lacking
     over-told e = record { same = rw e; few = λ f. absurd (let z : _≡_ {A = ℕ} 0 1 = cc in omega arith) }
 
-    pub lacking-record : {t : Bool} → over ≡ false → judged ≡ true → Tells t (recordHeld bytes) false bytes
+    pub lacking-told :
+        {t held : Bool}
+        → over ≡ false
+        → Tells t held false bytes
+        → cond judged (recordHeld bytes) (tableHeld bytes) ≡ held
         → Tells (not t) (lacking judged over bytes) true bytes
     unfolding lacking
-    lacking-record {t} e j h = record { same = rw (e, j) (ap not (h .same)); few = λ f. h .few (not-true t f) }
-
-    pub lacking-table : {t : Bool} → over ≡ false → judged ≡ false → Tells t (tableHeld bytes) false bytes
-        → Tells (not t) (lacking judged over bytes) true bytes
-    unfolding lacking
-    lacking-table {t} e j h = record { same = rw (e, j) (ap not (h .same)); few = λ f. h .few (not-true t f) }
+    lacking-told {t} e h k =
+        record {
+          same = rw e (ap not (h .same ∙ sym k) ∙ not-either judged (recordHeld bytes) (tableHeld bytes));
+          few = λ f. h .few (not-true t f);
+        }

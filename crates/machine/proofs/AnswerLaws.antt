@@ -20,8 +20,6 @@ use Rattle.lines.specs.Printed.{refusalLine}
 use Rattle.refusal_answer.specs.declared.TextAnswer.{TextAnswer}
 use Rattle.refusal_answer.specs.Answers.{TextAnswered}
 use Rattle.table_input.specs.Start.{inputAnswer}
-use Rattle.refusal_answer.specs.declared.TextAnswer.{TextAnswer}
-use Rattle.refusal_answer.specs.Answers.{TextAnswered}
 use Rattle.table_input.specs.Starts.{StartedOnInput}
 use Rattle.table_input.specs.declared.TableStart.{TableStart}
 use Rattle.table_input.proofs.StartsLaws.{started-input-kept, started-input-short, started-input-fits, started-input-length}
@@ -199,19 +197,19 @@ module _
 
   -- what a record relies on
   pub due-ready : (space fours : List ℕ) → WorkingSpace space fours → RecordReady (take (p .length) table) (p .counts) weights state space fours out (p .at)
-  due-ready space fours tools =
+  due-ready space fours lent =
       let s = f .started (d .phase) (d .some) in
       record {
         weighed = s .weighed;
         stateWhole = f .sizes .stateWhole;
         stateKept = s .stateKept;
-        spaceFull = tools .spaceWhole;
-        digits = tools .digits;
+        spaceFull = lent .spaceWhole;
+        digits = lent .digits;
         room = omega (arith, d .room, f .sizes .textWhole);
       }
 
   module _
-      (space fours : List ℕ) (tools : WorkingSpace space fours) (size : ℕ) (r : TextAnswer) (after : State) (text : List ℕ)
+      (space fours : List ℕ) (lent : WorkingSpace space fours) (size : ℕ) (r : TextAnswer) (after : State) (text : List ℕ)
       (some : p .from ≡ p .have → ⊥) (e : RecordEnd (unusedIn p input) size)
       (a : Reported r out (p .at) text after (recordOnPrinted (tableIn (take (p .length) table)) (take size (unusedIn p input)) state))
       (same : length text ≡ length out) where
@@ -231,7 +229,7 @@ module _
         let all = unused-all p input (omega (arith, f .inside, f .sizes .inputWhole)) in
         let there : 0 < length (unusedIn p input) = positive _ (λ z. some (omega (arith, f .order, all, z))) in
         let rest = window-later (p .from) (p .have) size input ∙ sym (e .after) in
-        let next = record-left _ _ _ _ _ _ _ _ _ (due-ready space fours tools) (a .left) in
+        let next = record-left _ _ _ _ _ _ _ _ _ (due-ready space fours lent) (a .left) in
         record {
           held =
               rw (

@@ -1,5 +1,5 @@
 -- `main` meets its contract: the loop ends, since every turn leaves less to do.
-use Prim.Native.Nat.{ℕ, _-_}
+use Prim.Native.Nat.{ℕ, _-_, _≤_}
 use mathlib.Core.List.{List}
 use mathlib.Core.Path.{_≡_, sym, ap, _∙_}
 use native.Mathlib.Omega.{arith}
@@ -21,9 +21,9 @@ empty-length : (s : State) → s ≡ emptyState → length s ≡ stateNumbers
 unfolding emptyState
 empty-length s e = ap length e ∙ length-replicate {A = ℕ} stateNumbers 0
 
--- the tools stay
-tools-kept : {space fours after : List ℕ} → WorkingSpace space fours → length after ≡ length space → WorkingSpace after fours
-tools-kept h e = record { spaceWhole = e ∙ h .spaceWhole; digits = h .digits }
+-- the working space stays
+space-kept : {space fours after : List ℕ} → WorkingSpace space fours → length after ≡ length space → WorkingSpace after fours
+space-kept h e = record { spaceWhole = e ∙ h .spaceWhole; digits = h .digits }
 
 abbrev Inv-loop : tie.InvT-loop
 Inv-loop input₀ table₀ weights₀ state₀ space₀ fours out₀ progress₀ input table weights state space out progress =
@@ -35,6 +35,10 @@ abbrev μ-loop : tie.MeasureT-loop
 
 abbrev loop-at : tie.After-proceed Inv-loop μ-loop → tie.At-loop Inv-loop μ-loop
 loop-at c = c .before .before .before .before .before .before .before .before
+
+-- the machine's call, from where its answer is taken apart
+abbrev called : tie.After-progress Inv-loop μ-loop → tie.After-proceed Inv-loop μ-loop
+called c = c .before .before .before .before .before .before
 
 -- what is held as a turn begins
 abbrev held-at : tie.At-loop Inv-loop μ-loop → Held
@@ -103,20 +107,24 @@ enum-known-done : tie.Need-enum-known-done Inv-loop μ-loop
 enum-known-done c = search needs
 
 array-share-prefix-out : tie.Need-array-share-prefix-out Inv-loop μ-loop
-array-share-prefix-out c = c .before .before .before .before .before .before .before .before .before .proceed .ensures .write _ (c .before .done .given .1)
+array-share-prefix-out c = let d = c .before in called (d .before .before) .proceed .ensures .write _ (d .done .given .1)
 
 slice-aggregate-write-all : tie.Need-slice-aggregate-write-all Inv-loop μ-loop
-slice-aggregate-write-all c = sym (length-take-le _ _ (c .before .before .before .before .before .before .before .before .before .before .proceed .ensures .write _ (c .before .before .done .given .1)))
+slice-aggregate-write-all c =
+    let d = c .before .before in sym (length-take-le _ _ (called (d .before .before) .proceed .ensures .write _ (d .done .given .1)))
 
 write-all-requires : tie.Need-write-all-requires Inv-loop μ-loop
 write-all-requires c κs = search needs
 
 loop-less : tie.Need-loop-less Inv-loop μ-loop
-loop-less c = written-less _ _ _ _ _ _ _ (c .before .before .before .before .before .before .before .before .before .before .before .proceed .ensures) _ (c .before .before .before .done .given .1)
+loop-less c =
+    let d = c .before .before .before in
+    let p = called (d .before .before) in written-less (held-at (loop-at p)) _ _ _ _ _ _ (p .proceed .ensures) _ (d .done .given .1)
 
 loop-again : tie.Need-loop-again Inv-loop μ-loop
 loop-again c =
-    let p = c .before .before .before .before .before .before .before .before .before .before .before in (p .proceed .ensures .fits, tools-kept (loop-at p .loop .inv .1) (p .proceed .kept .1 .1 .1 .1 .1 .0))
+    let p = called (c .before .before .before .before .before) in
+    (p .proceed .ensures .fits, space-kept (loop-at p .loop .inv .1) (p .proceed .kept .1 .1 .1 .1 .1 .0))
 
 enum-told : tie.Need-enum-told Inv-loop μ-loop
 enum-told c = search needs
@@ -124,17 +132,20 @@ enum-told c = search needs
 enum-known-done-2 : tie.Need-enum-known-done-2 Inv-loop μ-loop
 enum-known-done-2 c = search needs
 
+-- there is room for a read
+read-room : (c : tie.After-known-told2 Inv-loop μ-loop) → c .before .done2 .given .0 .0 ≤ inputBuffer
+read-room c =
+    let d = c .before in
+    omega (arith, called (d .before .before) .proceed .ensures .read _ (d .done2 .given .1) .room)
+
 sub-read-input : tie.Need-sub-read-input Inv-loop μ-loop
-sub-read-input c =
-    let p = c .before .before .before .before .before .before .before .before .before in omega (arith, p .proceed .ensures .read _ (c .before .done2 .given .1) .room)
+sub-read-input c = read-room c
 
 part-input-start : tie.Need-part-input-start Inv-loop μ-loop
-part-input-start c =
-    let p = c .before .before .before .before .before .before .before .before .before in omega (arith, p .proceed .ensures .read _ (c .before .done2 .given .1) .room)
+part-input-start c = omega (arith, read-room c)
 
 part-input-end : tie.Need-part-input-end Inv-loop μ-loop
-part-input-end c =
-    let p = c .before .before .before .before .before .before .before .before .before in omega (arith, p .proceed .ensures .read _ (c .before .done2 .given .1) .room)
+part-input-end c = omega (arith, read-room c)
 
 read-input-requires : tie.Need-read-input-requires Inv-loop μ-loop
 read-input-requires c κs = search needs
@@ -143,14 +154,14 @@ after-read-requires : tie.Need-after-read-requires Inv-loop μ-loop
 after-read-requires c κs =
     let r = c .before in
     let d = r .before .before .before in
-    let p = d .before .before .before .before .before .before .before .before in
+    let p = called (d .before .before) in
     read-few (held-at (loop-at p)) _ _ _ _ _ _ (p .proceed .ensures) _ (d .done2 .given .1) _ (inputBuffer - d .done2 .given .0 .0) (r .read-input .last .0) (r .read-input .kept .0) (r .read-input .ensures .0)
 
 loop-less-2 : tie.Need-loop-less-2 Inv-loop μ-loop
 loop-less-2 c =
     let r = c .before .before in
     let d = r .before .before .before in
-    let p = d .before .before .before .before .before .before .before .before in
+    let p = called (d .before .before) in
     read-less (held-at (loop-at p)) _ _ _ _ _ _ (p .proceed .ensures) _ (d .done2 .given .1) _ (inputBuffer - d .done2 .given .0 .0) (r .read-input .last .0) (r .read-input .kept .0) (r .read-input .ensures .0) _
     (c .after-read .ensures)
 
@@ -158,21 +169,23 @@ loop-again-2 : tie.Need-loop-again-2 Inv-loop μ-loop
 loop-again-2 c =
     let r = c .before .before in
     let d = r .before .before .before in
-    let p = d .before .before .before .before .before .before .before .before in (
+    let p = called (d .before .before) in (
       read-fits (held-at (loop-at p)) _ _ _ _ _ _ (p .proceed .ensures) _ (d .done2 .given .1) _ (inputBuffer - d .done2 .given .0 .0) (r .read-input .last .0) (r .read-input .kept .0) (r .read-input .ensures .0) _
           (c .after-read .ensures),
-      tools-kept (loop-at p .loop .inv .1) (p .proceed .kept .1 .1 .1 .1 .1 .0),
+      space-kept (loop-at p .loop .inv .1) (p .proceed .kept .1 .1 .1 .1 .1 .0),
     )
 
 enum-told-2 : tie.Need-enum-told-2 Inv-loop μ-loop
 enum-told-2 c = search needs
 
 loop-less-3 : tie.Need-loop-less-3 Inv-loop μ-loop
-loop-less-3 c = answered-less _ _ _ _ _ _ _ (c .before .before .before .before .before .before .before .before .proceed .ensures) (c .enum-told2 .given .1)
+loop-less-3 c =
+    let p = called (c .before .before) in answered-less (held-at (loop-at p)) _ _ _ _ _ _ (p .proceed .ensures) (c .enum-told2 .given .1)
 
 loop-again-3 : tie.Need-loop-again-3 Inv-loop μ-loop
 loop-again-3 c =
-    let p = c .before .before .before .before .before .before .before .before in (p .proceed .ensures .fits, tools-kept (loop-at p .loop .inv .1) (p .proceed .kept .1 .1 .1 .1 .1 .0))
+    let p = called (c .before .before) in
+    (p .proceed .ensures .fits, space-kept (loop-at p .loop .inv .1) (p .proceed .kept .1 .1 .1 .1 .1 .0))
 
 returns : tie.Need-returns Inv-loop μ-loop
 returns c = search needs

@@ -4,6 +4,10 @@ use borrow.Author.Needs.{needs}
 use Rattle.machine.proofs.proceed.Statement.{statement}
 use Rattle.machine.proofs.proceed.Tie as tie
 
+-- the start, from the last of the three tests
+abbrev start : tie.After-text-due → tie.Start
+start c = c .before .before .before .before .before .before .before .before .before .before .before
+
 sub-wants-more : tie.Need-sub-wants-more
 sub-wants-more c = search needs
 
@@ -31,10 +35,7 @@ same-length c = search needs
 returns : tie.Need-returns
 returns c =
     let t = c .before .before in
-    let e = t .before in
-    let w = e .before in
-    let s = w .before .before .before .before .before .before .before .before .before in
-    turn-write _ _ _ _ _ _ (s .pre .0) _ _ _ (w .wants-more .ensures) (e .has-ended .ensures) (t .text-due .ensures) _
+    turn-write _ _ _ _ _ _ (start t .pre .0) _ _ _ (t .before .before .wants-more .ensures) (t .before .has-ended .ensures) (t .text-due .ensures) _
     (c .before .if1 .taken) (c .after-write .ensures)
 
 same-length-2 : tie.Need-same-length-2
@@ -43,10 +44,7 @@ same-length-2 c = search needs
 returns-2 : tie.Need-returns-2
 returns-2 c =
     let t = c .before .before in
-    let e = t .before in
-    let w = e .before in
-    let s = w .before .before .before .before .before .before .before .before .before in
-    turn-end _ _ _ _ _ _ (s .pre .0) _ _ _ (w .wants-more .ensures) (e .has-ended .ensures) (t .text-due .ensures)
+    turn-end _ _ _ _ _ _ (start t .pre .0) _ _ _ (t .before .before .wants-more .ensures) (t .before .has-ended .ensures) (t .text-due .ensures)
     (c .before .if1 .left) (c .if2 .taken)
 
 moved-front-requires : tie.Need-moved-front-requires
@@ -60,23 +58,18 @@ returns-3 c =
     let m = c .before .before in
     let i = m .before .before in
     let t = i .before .before .before in
-    let e = t .before in
-    let w = e .before in
-    let s = w .before .before .before .before .before .before .before .before .before in
-    turn-read _ _ _ _ _ _ (s .pre .0) _ _ _ (w .wants-more .ensures) (e .has-ended .ensures) (t .text-due .ensures) _ _
+    turn-read _ _ _ _ _ _ (start t .pre .0) _ _ _ (t .before .before .wants-more .ensures) (t .before .has-ended .ensures) (t .text-due .ensures) _ _
     (i .before .before .if1 .left) (i .before .if2 .left) (i .if3 .taken) (m .moved-front .ensures) (m .moved-front .kept .1 .0)
 
 answered-requires : tie.Need-answered-requires
 answered-requires c κs =
     let i = c .before .before .before .before .before .before in
     let t = i .before .before .before in
-    let e = t .before in
-    let w = e .before in
-    let s = w .before .before .before .before .before .before .before .before .before in (
+    let s = start t in (
       s .pre .0,
       (
         s .pre .1,
-        answer-due _ _ _ _ _ _ (s .pre .0) _ _ _ (w .wants-more .ensures) (e .has-ended .ensures) (t .text-due .ensures)
+        answer-due _ _ _ _ _ _ (start t .pre .0) _ _ _ (t .before .before .wants-more .ensures) (t .before .has-ended .ensures) (t .text-due .ensures)
             (i .before .before .if1 .left) (i .before .if2 .left) (i .if3 .left),
       ),
     )
@@ -101,10 +94,7 @@ returns-4 c =
     let a = c .before .before .before .before .before .before .before .before in
     let i = a .before .before .before .before .before .before .before in
     let t = i .before .before .before in
-    let e = t .before in
-    let w = e .before in
-    let s = w .before .before .before .before .before .before .before .before .before in
-    turn-answer _ _ _ _ _ _ (s .pre .0) _ _ _ (w .wants-more .ensures) (e .has-ended .ensures) (t .text-due .ensures) _ _ _ _ _ _
+    turn-answer _ _ _ _ _ _ (start t .pre .0) _ _ _ (t .before .before .wants-more .ensures) (t .before .has-ended .ensures) (t .text-due .ensures) _ _ _ _ _ _
     (i .before .before .if1 .left) (i .before .if2 .left) (i .if3 .left) (a .answered .ensures)
 
 pub proceed-spec : {M : Type 1} → statement M

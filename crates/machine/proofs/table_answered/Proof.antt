@@ -6,6 +6,9 @@ use borrow.Author.Needs.{needs}
 use Rattle.machine.proofs.table_answered.Statement.{statement}
 use Rattle.machine.proofs.table_answered.Tie as tie
 
+abbrev start : tie.After-started-on-input → tie.Start
+start c = c .before .before .before .before .before .before .before .before
+
 sub-unused : tie.Need-sub-unused
 sub-unused c = search needs
 
@@ -28,8 +31,7 @@ put-bytes-requires : tie.Need-put-bytes-requires
 put-bytes-requires c κs =
     let v = c .before .before in
     let o = v .before .before .before .before .before in
-    let s = o .before .before .before .before .before .before .before .before in
-    table-room _ _ _ _ _ _ (s .pre .0) (s .pre .1) _ _ _ (o .started-on-input .ensures) (o .started-on-input .kept .1 .0)
+    table-room _ _ _ _ _ _ (start o .pre .0) (start o .pre .1) _ _ _ (o .started-on-input .ensures) (o .started-on-input .kept .1 .0)
     (v .enum-told .given .1)
 
 after-table-requires : tie.Need-after-table-requires
@@ -55,9 +57,8 @@ returns c =
     let b = c .before .before .before in
     let v = b .before .before .before in
     let o = v .before .before .before .before .before in
-    let s = o .before .before .before .before .before .before .before .before in
     answered-as (c .after-table .ensures)
-    (table-accepted _ _ _ _ _ _ (s .pre .0) (s .pre .1) _ _ _ (o .started-on-input .ensures) (o .started-on-input .kept .1 .0)
+    (table-accepted _ _ _ _ _ _ (start o .pre .0) (start o .pre .1) _ _ _ (o .started-on-input .ensures) (o .started-on-input .kept .1 .0)
     (v .enum-told .given .1) _ _ (b .put-bytes .ensures) (b .put-bytes .kept .0))
 
 same-length-3 : tie.Need-same-length-3
@@ -71,9 +72,8 @@ returns-2 c =
     let t = c .before .before .before in
     let v = t .before .before .before in
     let o = v .before .before .before .before .before in
-    let s = o .before .before .before .before .before .before .before .before in
     answered-as (c .after-refusal .ensures)
-    (table-refused _ _ _ _ _ _ (s .pre .0) (s .pre .1) _ _ _ (o .started-on-input .ensures) (o .started-on-input .kept .1 .0) _ _
+    (table-refused _ _ _ _ _ _ (start o .pre .0) (start o .pre .1) _ _ _ (o .started-on-input .ensures) (o .started-on-input .kept .1 .0) _ _
     (v .verdict .given .1) (t .answer-refusal .ensures) (t .answer-refusal .kept .1 .1 .0))
 
 pub table-answered-spec : {M : Type 1} → statement M
