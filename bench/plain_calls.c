@@ -18,8 +18,8 @@ river_plan NAMED(check)(const uint8_t *table, size_t table_bytes)
     Table t;
     u32 refusal = read_table(&t, table, table_bytes);
     if (refusal) return (river_plan){.refusal = refusal};
-    return (river_plan){0, t.count, t.leads, t.gauge_count, t.basin_count, 3 + 2 * (t.basin_count + t.gauge_count),
-                        4 * t.count * (t.leads + 1), t.step_minutes};
+    return (river_plan){0, t.count, t.leads, t.gauge_count, t.basin_count, t.dam_count,
+                        3 + 2 * t.basin_count + 4 * t.dam_count + 2 * t.gauge_count, 4 * t.count * (t.leads + 1), t.step_minutes};
 }
 
 uint64_t NAMED(start)(const uint8_t *table, size_t table_bytes, river_state *state)

@@ -1,9 +1,9 @@
-/* The proved engine of the river cabinet for programs in C: document 01's entries on memory that the host owns.
+/* The proved engine of the river cabinet for programs in C: the entries of documents 01 and 02 on memory that the host owns.
  *
  *   rt staticlib river                                       writes target/staticlib/libriver.a
  *   gcc -Iinclude program.c target/staticlib/libriver.a      links it (x86-64 Linux)
  *
- * Every call checks all that it is given and answers by document 01: 0 where it is accepted, else the lowest number for no that applies.
+ * Every call checks all that it is given and answers 0 where it is accepted, else the first number for no, in checking order, that applies.
  * A refused call leaves the state and the lent numbers as they were. No call keeps anything or allocates memory, so any number of rivers
  * and threads can call at a time; a call takes up to 32 KB of its thread's stack.
  * A pointer must be valid for as many bytes or numbers as the length after it says, must not be null (also where the length is 0), and
@@ -23,12 +23,12 @@ extern "C" {
 
 /* The version of this header. At its start a host compares it with the library's own, river_version(), and makes no other call where they
  * differ: an object compiled with an old header would hand a new library its memory in another shape. */
-#define RIVER_VERSION 2
+#define RIVER_VERSION 3
 
 enum { RIVER_MOST_PLACES = 64, RIVER_MOST_LEADS = 12, RIVER_MOST_GAUGES = 16 };
 enum { RIVER_MOST_NUMBERS = 4 * RIVER_MOST_PLACES * (RIVER_MOST_LEADS + 1) };
 
-/* Document 01's numbers for no, in checking order. C is 4,000,000,000, the ceiling of every figure. */
+/* The numbers for no of documents 01 and 02, in checking order. C is 4,000,000,000, the ceiling of every figure. */
 enum {
     RIVER_ACCEPTED = 0,
     RIVER_REFUSED_TABLE_LENGTH = 1,     /* the table has under 10 bytes, or its length field is not the count of bytes after it */
@@ -37,12 +37,13 @@ enum {
     RIVER_REFUSED_TABLE_SIZE = 4,       /* the table's length field does not fit N and M */
     RIVER_REFUSED_ELEMENT_FIELD = 5,    /* an element's kind or any field but down is out of range */
     RIVER_REFUSED_ELEMENT_DOWN = 6,     /* a down is neither 0 nor a later element, or it names a basin */
-    RIVER_REFUSED_GAUGE_FIELD = 7,      /* a gauge field is out of range or out of order */
+    RIVER_REFUSED_GAUGE_FIELD = 7,      /* a gauge field is out of range or out of order, or the gauge stands on a dam */
     RIVER_REFUSED_STATE_RANGE = 8,      /* the state has another N, a step count above 10,000, a figure above C or a rain above 3,000 */
     RIVER_REFUSED_STEP_LIMIT = 9,       /* the state's step count is 10,000 already */
     RIVER_REFUSED_RECORD_LENGTH = 10,   /* the record's bytes, its length field or both do not fit the table */
     RIVER_REFUSED_RECORD_VERSION = 11,  /* the record's version is not 1 */
     RIVER_REFUSED_RAIN_RANGE = 12,      /* a rain is above 3,000 */
+    RIVER_REFUSED_RELEASE_RANGE = 17,   /* a release is above C; judged after 12 and before 13 */
     RIVER_REFUSED_STAGE_RANGE = 13,     /* a stage is above 30,000 and not 65535, which is a gap */
     RIVER_REFUSED_READING_RANGE = 14,   /* a stage lies below its curve, or the curve gives more than C */
     RIVER_REFUSED_ANSWER_SPACE = 15,    /* fewer numbers are lent than the forecast has */
@@ -61,7 +62,7 @@ typedef struct {
 } river_place;
 
 /* A river's state, 450 numbers: N, accepted steps, and a place for each element; place[0] is element 1. Before a start it may hold
- * anything. Places beyond the first N and the rains of reaches are neither read nor changed.
+ * anything. Places beyond the first N and the rains of reaches and dams are neither read nor changed.
  * A state may be stored and given back later with the same table: the run then goes on, also in another process after a power cut. */
 typedef struct {
     uint64_t elements, steps;
@@ -80,7 +81,7 @@ typedef char river_state_is_450_numbers[sizeof(river_state) == 8 * (2 + 7 * RIVE
  * all 0 but the refusal where the table is refused. */
 typedef struct {
     uint64_t refusal;
-    size_t elements, leads, gauges, basins, record_bytes, forecast_numbers;
+    size_t elements, leads, gauges, basins, dams, record_bytes, forecast_numbers;
     uint64_t step_minutes;
 } river_plan;
 
@@ -99,7 +100,7 @@ river_plan river_check(const uint8_t *table, size_t table_bytes);
 /* Starts a river, whatever its state held: rules 1 to 7. */
 uint64_t river_start(const uint8_t *table, size_t table_bytes, river_state *state);
 
-/* A step of the state on a record: rules 1 to 14 and 16. */
+/* A step of the state on a record: rules 1 to 14, 16 and 17. */
 uint64_t river_step(const uint8_t *table, size_t table_bytes, const uint8_t *record, size_t record_bytes, river_state *state);
 
 /* A forecast from the state, which stays: rules 1 to 8, 15 and 16. By element, then lead 0 (the state) to L, it writes discharge, margin,

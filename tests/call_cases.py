@@ -8,8 +8,8 @@ from typing import Callable
 
 from calculator.encode import big_endian, record_bytes, table_bytes
 from calculator.whole_numbers import BASIN, CEILING, GAP, MOST_ELEMENTS, SCALE, Figures, Refused, Rules, State, decode_table, start, step
-from inputs import (SHAPES, SMALL_RECORDS, WAYS, basin, gauge, last_places, rule_edits, reach, small_table, some_records, some_table,
-                    spoiled, spoiled_values)
+from inputs import (DAM_RECORDS, SHAPES, SMALL_RECORDS, WAYS, basin, count_of, dam, dam_edits, dam_river, dam_table, gauge, last_places,
+                    rule_edits, reach, small_river, small_table, some_records, some_table, spoiled, spoiled_values)
 
 LARGEST = 2 ** 64 - 1
 ROOM_FOR_ALL = 4 * 64 * 13
@@ -68,7 +68,7 @@ def noise_state(random):
 
 
 def marked_state(random, table, figure, rain, steps):
-    """A state that rule 8 takes, drawn by figure() and rain(); a reach's rains and places beyond N hold anything."""
+    """A state that rule 8 takes, drawn by figure() and rain(); the rains of reaches and dams and places beyond N hold anything."""
     noise, decoded = noise_state(random), decode_table(table)
     count = len(decoded.elements)
     figures = [Figures(figure(), figure(), figure(), figure()) for _ in range(count)]
@@ -102,12 +102,17 @@ def lent_numbers(random, size):
     return tuple(random.getrandbits(random.choice((1, 33, 64))) for _ in range(size))
 
 
-def small_state(random, steps=2):
-    """After a start on noise and some steps: what lies beyond N and in a reach's rain places is anything."""
-    state = start(SMALL, noise_state(random))
+def moved_state(random, table, records, steps=2):
+    """After a start on noise and some steps: what lies beyond N and in the rain places of reaches and dams is anything."""
+    data = table_bytes(table)
+    state = start(data, noise_state(random))
     for k in range(steps):
-        state = step(SMALL, record_bytes(*SMALL_RECORDS[k % 3]), state)
+        state = step(data, record_bytes(*records[k % 3]), state)
     return state
+
+
+def small_state(random):
+    return moved_state(random, *small_river())
 
 
 def both(name, random, state, table=SMALL, record=SMALL_RECORD, room=SMALL_NEED + 3):
@@ -162,13 +167,14 @@ def whole_river_state(random):
 
 
 def other_river(random):
-    """The state of a river with another table: another N, or a reach where the other has a basin."""
+    """The state of a river with another table: another N, or a reach or a dam where the other has a basin."""
     mirrored = small_table(elements=[basin(down=3), reach(down=3), reach(down=4), reach()])
     turned = small_table(elements=[reach(down=3), reach(down=4), reach(down=4), reach()])
     state = small_state(random)
-    for k, table in enumerate((mirrored, turned, small_table(elements=[basin()], gauges=[gauge(1)]))):
-        data, basins = table_bytes(table), sum(element["kind"] == 1 for element in table["elements"])
-        record = record_bytes((10,) * basins, (GAP,) * len(table["gauges"]))
+    dammed = small_table(elements=[basin(down=2), dam(down=3), reach(down=4), reach()])
+    for k, table in enumerate((mirrored, turned, small_table(elements=[basin()], gauges=[gauge(1)]), dammed)):
+        data = table_bytes(table)
+        record = record_bytes((10,) * count_of(table, 1), (GAP,) * len(table["gauges"]), (5,) * count_of(table, 3))
         for value in (3_000, 3_001):
             yield from both(f"other river {k}, second place's rain {value}", random, with_rain(state, 1, 2, value), data, record)
             yield from both(f"other river {k}, third place's rain {value}", random, with_rain(state, 2, 0, value), data, record)
@@ -406,14 +412,14 @@ def all_at_ceiling(random):
 # ---- Tables and records, cut and spoiled ---------------------------------------------------------------------------------------------------
 
 
-def edited_calls(edit):
+def edited_calls(edit, river=small_river):
     def build(random):
-        table, records = small_table(), list(SMALL_RECORDS)
+        (table, records), (right, right_records) = river(), river()
         edit(table, records)
-        data, state = table_bytes(table), small_state(random, 1)
-        record = record_bytes(*next((new for new, old in zip(records, SMALL_RECORDS) if new != old), SMALL_RECORDS[1]))
+        data, state, count = table_bytes(table), moved_state(random, right, right_records, 1), len(table["elements"])
+        record = record_bytes(*next((new for new, old in zip(records, right_records) if new != old), right_records[1]))
         yield Call("start", "start", data, noise_state(random), side=random.randrange(2))
-        yield from both("edited", random, replace(state, count=len(table["elements"])), data, record, room=4 * 4 * 13)
+        yield from both("edited", random, replace(state, count=count), data, record, room=4 * count * 13)
     return build
 
 
@@ -450,7 +456,7 @@ def spoiled_calls(random):
 
 
 def last_place_calls(random):
-    """Rules 5 to 7 and 12 to 14 at the last place that they can be broken at."""
+    """Rules 5 to 7, 12 to 14 and 17 at the last place that they can be broken at."""
     for name, *rivers in last_places():
         for table, record in rivers:
             data = table_bytes(table)
@@ -468,7 +474,85 @@ def empty_calls(random):
         yield Call("no room", "forecast", SMALL, state, side=side)
 
 
-# ---- Several refusals at once: the lowest wins ----------------------------------------------------------------------------------------------
+# ---- Dams --------------------------------------------------------------------------------------------------------------------------------
+
+DAMS = table_bytes(dam_table())
+DAM_RECORD = record_bytes(*DAM_RECORDS[0])
+ALL_DAMS = table_bytes(dict(T=60, L=12, elements=[dam(first_discharge=k, first_variance=CEILING - k, W=k) for k in range(64)], gauges=[]))
+
+
+def dam_starts(random):
+    for table in (DAMS, ALL_DAMS):
+        yield Call("start from noise", "start", table, noise_state(random), side=random.randrange(2))
+
+
+def dam_numbers(random):
+    """Each of the seven numbers of a dam in the middle and of one as outlet: rule 8 on the figures, none on the rains."""
+    state = moved_state(random, *dam_river())
+    for place in (1, 4):
+        for which in range(7):
+            for value in (CEILING, CEILING + 1) if which < 4 else (3_001, LARGEST):
+                given = with_number(state, place, which, value)
+                yield from both(f"number {which} of place {place} is {value}", random, given, DAMS, DAM_RECORD, 4 * 5 * 3 + 3)
+
+
+def dam_leads(random):
+    """A dam whose state has any discharge, margins and variance: at the leads it has the discharge, margin 0, variance W, margin 0."""
+    for leads in (1, 3, 12):
+        elements = [dam(down=2, first_discharge=9, first_variance=8, W=77), reach(W=1), dam(W=100_000_000)]
+        table = table_bytes(dict(T=60, L=leads, elements=elements, gauges=[]))
+        for figures in ((0, 0, 0, 0), (CEILING, 0, 5, 0), (123_456_789, 1_000, 2_000, 3_000), (1, CEILING, CEILING, CEILING)):
+            for steps in (0, 3):
+                state = state_of(3, steps, [figures, (5, 6, 7, 8), figures], [(LARGEST, 3_001, 1)] * 3)
+                lent = lent_numbers(random, 12 * (leads + 1) + 2)
+                yield Call(f"step count {steps}, {leads} leads, {figures}", "forecast", table, state, b"", lent, random.randrange(2))
+
+
+def into_a_dam(random):
+    """Sums of each of the four figures that pass C: a dam takes what drains in, a reach does not."""
+    for name, below, releases in (("dam", dam(), (CEILING,)), ("reach", reach(lag=60_000), ())):
+        table = table_bytes(SLOW | dict(elements=[reach(down=3, lag=60_000), reach(down=3, lag=60_000), below]))
+        for which in range(4):
+            full = single(which, CEILING)
+            yield from both(f"number {which} into a {name}", random, state_of(3, 3, [full, full]), table, record_bytes((), (), releases), 24)
+
+
+def release_edges(entry):
+    """A release, or a discharge that is held, and a reach drain into a reach: their sum."""
+    elements = [dam(down=3), reach(down=3, lag=60_000), reach(lag=60_000)]
+    table = table_bytes(SLOW | dict(elements=elements))
+
+    def build(random):
+        lent = lent_numbers(random, 24) if entry == "forecast" else ()
+
+        def call(p):
+            state = state_of(3, 3, [(p if entry == "forecast" else 0, 0, 0, 0), (10 ** 9, 0, 0, 0)])
+            return Call("", entry, table, state, record_bytes((), (), (p,)), lent)
+        return edge_calls("reach inflow", call)
+    return build
+
+
+def release_orders(random):
+    """A release above C beside what is judged before it and after it."""
+    state, flooded = moved_state(random, *dam_river()), dam_table()
+    flooded["elements"][0] |= dict(area=400_000)  # a rain of 3,000 brings 16
+    for first, table, given in (("17", DAMS, state), ("8 and 17", DAMS, replace(state, steps=10_001)),
+                                ("9 and 17", DAMS, replace(state, steps=10_000)), ("16 and 17", table_bytes(flooded), state)):
+        for second, rain, stage, version in (("nothing", 3_000, GAP, 1), ("11", 3_000, GAP, 2), ("12", 3_001, GAP, 1), ("13", 3_000, 30_001, 1),
+                                             ("14", 3_000, 499, 1)):
+            record = record_bytes((rain, 0), (stage,), (0, CEILING + 1), version)
+            yield Call(f"{first}, {second} beside it", "step", table, given, record, side=random.randrange(2))
+
+
+def dam_records_cut(random):
+    """A record cut at each byte, as its length says, and longer by a release."""
+    state = moved_state(random, *dam_river())
+    for record in (*(DAM_RECORD[:size] for size in range(2, len(DAM_RECORD))), DAM_RECORD + bytes(4)):
+        told = big_endian(len(record) - 2, 2) + record[2:]
+        yield Call(f"record of {len(record)} bytes", "step", DAMS, state, told, side=random.randrange(2))
+
+
+# ---- Several refusals at once --------------------------------------------------------------------------------------------------------------
 
 
 def several_refusals(random):
@@ -486,8 +570,8 @@ def several_refusals(random):
         else:
             state = with_figure(with_figure(with_figure(state, 0, 1, CEILING), 1, 1, CEILING), 2, 1, CEILING)  # 16
         version, rain, stage = random.choice((1, 1, 2)), random.choice((3_000, 3_001)), random.choice((GAP, 499, 30_001))
-        record = random.choice((record_bytes((rain, 0), (stage, GAP), version), record_bytes((0, rain), (stage, 30_001), version),
-                                record_bytes((rain,), (stage, GAP), version), b"\0"))
+        fields = random.choice((((rain, 0), (stage, GAP)), ((0, rain), (stage, 30_001)), ((rain,), (stage, GAP)), None))
+        record = record_bytes(*fields, version=version) if fields else b"\0"
         yield from both("several", random, state, table_bytes(table), record, random.choice((0, 47, 48, 60)))
 
 
@@ -516,24 +600,27 @@ def noise_calls(random):
         yield Call("noise", entry, table, noise_state(random), record, lent_numbers(random, random.randrange(60)))
 
 
-def run_calls(count=None):
+def run_of(random, table, records):
     """A start and some steps, with a forecast after each: the state of a call is what the calculator gave to the one before."""
+    data, state, room = table_bytes(table), noise_state(random), 4 * len(table["elements"]) * (table["L"] + 1)
+    yield Call("start", "start", data, state)
+    try:
+        state = start(data, state)
+        for given in records:
+            yield Call("forecast", "forecast", data, state, b"", lent_numbers(random, room + 1))
+            yield Call("step", "step", data, state, record_bytes(*given))
+            state = step(data, record_bytes(*given), state)
+        yield Call("forecast", "forecast", data, state, b"", lent_numbers(random, room + 1))
+    except Refused:
+        return
+
+
+def run_calls(count=None):
     def build(random):
         size = count or random.choice((1, 2, 3, 4))
         way = random.choice(("typical", "typical", "zero", "ceiling"))
         table = some_table(random, size, random.choice(SHAPES), way, leads=random.choice((1, 2, 3)))
-        data, state = table_bytes(table), noise_state(random)
-        yield Call("start", "start", data, state)
-        try:
-            state = start(data, state)
-            for given in some_records(random, table, 4, "typical"):
-                room = 4 * size * (table["L"] + 1)
-                yield Call("forecast", "forecast", data, state, b"", lent_numbers(random, room + 1))
-                yield Call("step", "step", data, state, record_bytes(*given))
-                state = step(data, record_bytes(*given), state)
-            yield Call("forecast", "forecast", data, state, b"", lent_numbers(random, room + 1))
-        except Refused:
-            return
+        return run_of(random, table, some_records(random, table, 4, "typical"))
     return build
 
 
@@ -575,10 +662,12 @@ def check_calls(random):
         yield Call(f"N {count}, L {leads}, M {gauge_count}", "check", table_bytes(table), nothing, side=random.randrange(2))
     for size in range(len(SMALL) + 1):
         yield Call(f"table cut at {size}", "check", SMALL[:size], nothing, side=random.randrange(2))
-    for _, edit in rule_edits():
-        table = small_table()
-        edit(table, list(SMALL_RECORDS))
-        yield Call("edited", "check", table_bytes(table), nothing)
+    for river, edits in ((small_river, rule_edits()), (dam_river, dam_edits())):
+        for _, edit in edits:
+            table, records = river()
+            edit(table, records)
+            yield Call("edited", "check", table_bytes(table), nothing)
+    yield Call("64 dams", "check", ALL_DAMS, nothing)
     for T in (1, 2, 255, 256, 257, 1_439, 1_440):
         yield Call(f"T {T}", "check", table_bytes(dict(T=T, L=1, elements=[basin(lag=1_440)], gauges=[])), nothing)
 
@@ -592,6 +681,7 @@ def ceiling_cases():
         for which in range(4):
             yield f"inflow {which}, {entry}", inflow_edges(which, entry)
         yield f"discharge margin, {entry}", margin_edges(entry)
+        yield f"release, {entry}", release_edges(entry)
         for kind in ("reach", "basin"):
             yield f"variance of a {kind}, {entry}", variance_edges(entry, kind)
     for leads in (2, 3, 12):
@@ -611,6 +701,11 @@ def cases():
         found.append(Case(build.__name__.replace("_", " "), build))
     found += [Case(f"rooms of {count} elements and {leads} leads", rooms(count, leads)) for count in (1, 4, 64) for leads in (1, 12)]
     found += [Case(f"rule {rule}", edited_calls(edit)) for rule, edit in rule_edits()]
+    found += [Case(f"rule {rule}", edited_calls(edit, dam_river)) for rule, edit in dam_edits()]
+    for name, build in (("starts", dam_starts), ("numbers of places", dam_numbers), ("leads", dam_leads), ("inflow above C", into_a_dam),
+                        ("cut records", dam_records_cut)):
+        found.append(Case(f"dam: {name}", build))
+    found += [Case("order: 17", release_orders), Case("dam: run", lambda random: run_of(random, *dam_river()), exact=True)]
     for name, build, count in (("several refusals", several_refusals, 25), ("random", random_calls(), 700),
                                ("random, 64 elements", random_calls(64), 24), ("noise", noise_calls, 60)):
         found += [Case(name, build) for _ in range(count)]

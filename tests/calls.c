@@ -5,7 +5,7 @@
  * A call: five numbers of 8 bytes in the machine's order (entry, side, bytes of table, bytes of record, numbers lent), then the table's
  * bytes, the record's bytes, the 450 numbers of the state and the lent numbers. A reply: refusal, count, whether all that the
  * host keeps stayed as it was, how many numbers follow, and these: the 450 of the state afterwards (start, step), all that were lent
- * (forecast), the plan's seven after its refusal (check), or the library's version and the header's (version).
+ * (forecast), the plan's eight after its refusal (check), or the library's version and the header's (version).
  *
  * Table, record, state and lent numbers each end where a page without access begins (side 0) or begin where one ends (side 1), so that a
  * read or write past that end ends this program by a signal; so does a write into what a call is given to read alone.
@@ -95,8 +95,9 @@ static void forecast_call(void)
 static void check_call(void)
 {
     river_plan got = river_check(table.at, table.size);
-    uint64_t plan[7] = {got.elements, got.leads, got.gauges, got.basins, got.record_bytes, got.forecast_numbers, got.step_minutes};
-    reply(got.refusal, 0, inputs_stayed() && stayed(&state) && stayed(&numbers), 7, plan);
+    uint64_t plan[8] = {got.elements, got.leads, got.gauges, got.basins, got.dams, got.record_bytes, got.forecast_numbers,
+                        got.step_minutes};
+    reply(got.refusal, 0, inputs_stayed() && stayed(&state) && stayed(&numbers), 8, plan);
 }
 
 static void version_call(void)

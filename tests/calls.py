@@ -24,7 +24,7 @@ from inputs import random_for
 
 ROOT = Path(__file__).resolve().parent.parent
 ENTRIES = {"start": 1, "step": 2, "forecast": 3, "check": 4, "version": 5}
-VERSION = 2  # of the interface
+VERSION = 3  # of the interface
 MOST_SHOWN = 20  # failed cases that are told of
 TIME_LIMIT = 60  # seconds for all calls
 
@@ -60,7 +60,7 @@ class Library:
     def refused(self, call, number):
         if call.entry == "forecast":
             return Reply(number, 0, 1, array("Q", call.lent))
-        return Reply(number, 0, 1, state_numbers(call.state) if call.entry != "check" else array("Q", [0] * 7))
+        return Reply(number, 0, 1, state_numbers(call.state) if call.entry != "check" else array("Q", [0] * 8))
 
     def start(self, call):
         return Reply(0, 0, 1, state_numbers(self.rules.start(call.table, call.state)))
@@ -74,9 +74,9 @@ class Library:
 
     def check(self, call):
         table = decode_table(call.table)
-        count, leads, gauges, basins = len(table.elements), table.leads, len(table.gauges), table.basins
-        return Reply(0, 0, 1, array("Q", (count, leads, gauges, basins, 3 + 2 * basins + 2 * gauges, 4 * count * (leads + 1),
-                                          table.step_minutes)))
+        count, leads, gauges, basins, dams = len(table.elements), table.leads, len(table.gauges), table.basins, table.dams
+        return Reply(0, 0, 1, array("Q", (count, leads, gauges, basins, dams, 3 + 2 * basins + 4 * dams + 2 * gauges,
+                                          4 * count * (leads + 1), table.step_minutes)))
 
     def version(self, call):
         return Reply(0, 0, 1, array("Q", (VERSION, VERSION)))

@@ -34,6 +34,10 @@ def reach(down=0, lag=60, **rest):
     return dict(kind=2, down=down, lag=lag, **rest)
 
 
+def dam(down=0, **rest):
+    return dict(kind=3, down=down, **rest)
+
+
 def gauge(element, R=200, pieces=((30_001, 20_000, -500),), **rest):
     return dict(element=element, R=R, pieces=list(pieces), **rest)
 
@@ -49,6 +53,27 @@ def small_table(**changes):
 SMALL_RECORDS = [((100, 0), (1_500, GAP)), ((35, 3_000), (GAP, 999)), ((0, 10), (1_499, 1_000))]
 
 
+def dam_table(**changes):
+    """A dam in the middle and one as outlet, two basins, and a gauged reach between the dams: all that M-100 brings to rules 5 to 17."""
+    return dict(T=60, L=2, elements=[
+        basin(down=2, first_discharge=1_000_000, first_variance=300, W=10, G=1_000),
+        dam(down=4, first_discharge=5_000_000, first_variance=700, W=30), basin(down=4, lag=90, area=900, f=500, W=7, G=50),
+        reach(down=5, lag=120, first_discharge=2_000_000, first_variance=400, W=50),
+        dam(first_discharge=9_000_000, first_variance=20, W=4)],
+        gauges=[gauge(4)]) | changes
+
+
+DAM_RECORDS = [((100, 0), (1_500,), (3_000_000, 0)), ((35, 3_000), (GAP,), (0, CEILING)), ((0, 10), (1_499,), (70_000_000, 12))]
+
+
+def small_river():
+    return small_table(), list(SMALL_RECORDS)
+
+
+def dam_river():
+    return dam_table(), list(DAM_RECORDS)
+
+
 def whole_input(table, records):
     return table_bytes(table) + b"".join(record_bytes(*record) for record in records)
 
@@ -62,6 +87,12 @@ def some_lag(random, step_minutes, way):
 
 
 def river_kinds(random, shape, count):
+    """In one river of three some elements are dams."""
+    dams = random.choice((0, 0, 0.3))
+    return [3 if random.random() < dams else kind for kind in basins_and_reaches(random, shape, count)]
+
+
+def basins_and_reaches(random, shape, count):
     if shape == "chain":
         return [random.choice((1, 2))] + [2] * (count - 1)
     if shape == "star":
@@ -72,7 +103,7 @@ def river_kinds(random, shape, count):
 
 
 def river_down(random, shape, kinds, number):
-    later = [other for other in range(number + 1, len(kinds) + 1) if kinds[other - 1] == 2]
+    later = [other for other in range(number + 1, len(kinds) + 1) if kinds[other - 1] != 1]
     if shape == "lone" or not later:
         return 0
     if shape == "chain":
@@ -119,7 +150,9 @@ def some_table(random, count, shape, way, leads=None, gauge_count=None):
     kinds = river_kinds(random, shape, count)
     elements = []
     for number, kind in enumerate(kinds, 1):
-        element = dict(kind=kind, down=river_down(random, shape, kinds, number), lag=some_lag(random, step_minutes, lags))
+        element = dict(kind=kind, down=river_down(random, shape, kinds, number))
+        if kind != 3:
+            element |= dict(lag=some_lag(random, step_minutes, lags))
         if way == "typical":
             element |= dict(first_discharge=random.randint(0, CEILING // (2 * count)),
                             first_variance=random.randint(0, 10_000_000 // count), W=random.randint(0, 500_000))
@@ -141,24 +174,31 @@ def some_table(random, count, shape, way, leads=None, gauge_count=None):
     if gauge_count is None:
         gauge_count = random.choice((0, 1, 2, random.randint(0, 16)))
     gauges = []
-    for number in sorted(random.sample(range(1, count + 1), min(count, gauge_count, 16))):
+    no_dams = [number for number, kind in enumerate(kinds, 1) if kind != 3]
+    for number in sorted(random.sample(no_dams, min(len(no_dams), gauge_count, 16))):
         noise = random.choice((1, random.randint(1, 1_000), random.randint(1, 1_000_000), CEILING))
         gauges.append(gauge(number, R=noise, pieces=some_curve(random)))
     return dict(T=step_minutes, L=leads or random.choice((1, 2, 3, 12)), elements=elements, gauges=gauges)
 
 
+def count_of(table, kind):
+    return sum(element["kind"] == kind for element in table["elements"])
+
+
 def some_records(random, table, steps, way):
-    basins = sum(element["kind"] == 1 for element in table["elements"])
+    basins, dams, most = count_of(table, 1), count_of(table, 3), CEILING // (2 * len(table["elements"]))
     records = []
     for _ in range(steps):
         if way == "zero":
-            rains = [0] * basins
+            rains, releases = [0] * basins, [0] * dams
         elif way == "typical":
             rains = [random.choice((0, 0, 1, random.randint(0, 500))) for _ in range(basins)]
+            releases = [random.choice((0, 1, random.randint(0, most), random.randint(0, most))) for _ in range(dams)]
         else:
             rains = [random.choice((0, 1, 36, random.randint(0, 3_000), 3_000)) for _ in range(basins)]
+            releases = [random.choice((0, 1, random.randint(0, CEILING), CEILING)) for _ in range(dams)]
         stages = [GAP if random.random() < 0.4 else some_stage(random, gauge["pieces"]) for gauge in table["gauges"]]
-        records.append((rains, stages))
+        records.append((rains, stages, releases))
     return records
 
 
@@ -216,12 +256,12 @@ def with_head(**changes):
     return edit
 
 
-def with_record(which, rains=None, stages=None, **changes):
+def with_record(which, **changes):
+    """`rains`, `stages`, `releases`, `version` or `length` of a record changed."""
     def edit(table, records):
-        old = records[which]
-        records[which] = (rains if rains is not None else old[0], stages if stages is not None else old[1], *old[2:])
-        if changes:
-            records[which] = (*records[which][:2], changes.get("version", 1), changes.get("length"))
+        old = (*records[which], *((), 1, None)[len(records[which]) - 2:])
+        names = ("rains", "stages", "releases", "version", "length")
+        records[which] = tuple(changes.get(name, value) for name, value in zip(names, old))
     return edit
 
 
@@ -288,19 +328,48 @@ def rule_edits():
     return edits
 
 
-def edited(edits):
-    table, records = small_table(), list(SMALL_RECORDS)
+def dam_edits():
+    """The same of the river with dams: what M-100 brings."""
+    edits = []
+
+    def add(rule, *more):
+        edits.extend((rule, edit) for edit in more)
+
+    for place in (1, 4):
+        add(5, *(with_element(place, kind=kind) for kind in (1, 2, 4)), *(with_element(place, lag=lag) for lag in (1, 60)))
+        add(5, *(with_element(place, **{name: 1}) for name in ("area", "f", "G")))
+        for name in ("first_discharge", "first_variance"):
+            add(5, *(with_element(place, **{name: value}) for value in (CEILING, CEILING + 1)))
+        add(5, *(with_element(place, W=W) for W in (0, 100_000_000, 100_000_001)))
+    add(5, with_element(3, lag=0), with_element(0, lag=0))
+    for place, downs in ((0, (0, 3, 4, 5)), (1, (0, 1, 2, 3, 5, 6)), (3, (2, 4)), (4, (2, 4, 5))):
+        add(6, *(with_element(place, down=down) for down in downs))
+    add(7, *(with_gauge(0, element=element) for element in (1, 2, 3, 5, 6)))
+    add(10, *(with_record(0, length=length) for length in (11, 13, 14, 16, 17, 19)), with_record(0, releases=(1,)),
+        with_record(0, releases=(1, 2, 3)), with_record(0, rains=(1,)), with_record(0, rains=(1, 2, 3, 4), releases=(1,)))
+    add(11, with_record(0, version=2))
+    add(12, *(with_record(0, rains=rains) for rains in ((3_001, 0), (0, 3_001))))
+    for which in (0, 2):
+        for release in (CEILING, CEILING + 1, 2 ** 32 - 1):
+            add(17, with_record(which, releases=(release, 0)), with_record(which, releases=(0, release)))
+    add(13, *(with_record(0, stages=(stage,)) for stage in (30_001, 65_534)))
+    add(14, *(with_record(0, stages=(stage,)) for stage in (499, 14_643)))
+    return edits
+
+
+def edited(edits, river=small_river):
+    table, records = river()
     for edit in edits:
         edit(table, records)
     return whole_input(table, records)
 
 
 def several_edits(random):
-    """Two to four edits at once, of the table and the records or of the records alone: the lowest number that applies wins."""
-    lowest = random.choice((1, 5, 10, 10))
-    edits = [(rule, edit) for rule, edit in rule_edits() if rule >= lowest]
+    """Two to four edits at once, of the table and the records or of the records alone: the first number in checking order that applies."""
+    lowest, river = random.choice((1, 5, 10, 10)), random.choice((small_river, small_river, dam_river))
+    edits = [(rule, edit) for rule, edit in (dam_edits() if river is dam_river else rule_edits()) if rule >= lowest]
     rules = random.sample(sorted({rule for rule, _ in edits}), random.choice((2, 2, 3, 4)))
-    return edited([random.choice([edit for about, edit in edits if about == rule]) for rule in rules])
+    return edited([random.choice([edit for about, edit in edits if about == rule]) for rule in rules], river)
 
 
 def lowest_wins():
@@ -325,14 +394,32 @@ def lowest_wins():
     yield "a record of 65,535 bytes and a good one", edited([])[:-11] + big_endian(65_535, 2) + bytes([1]) * 65_535 + edited([])[-11:]
 
 
+def release_orders():
+    """17 beside each of the others on a step: a name and the river, edited. 17 stands between 12 and 13."""
+    above = dict(releases=(0, CEILING + 1))
+    over = [with_element(0, area=400_000), with_element(2, area=400_000)]  # rains of 3,000 bring 16
+    yield "10 and 17", edited([with_record(1, stages=(), **above)], dam_river)
+    yield "11 and 17", edited([with_record(1, version=0, **above)], dam_river)
+    yield "12 and 17", edited([with_record(1, rains=(3_001, 0), **above)], dam_river)
+    yield "12 in basin 2 and 17 in dam 1", edited([with_record(1, rains=(0, 3_001), releases=(CEILING + 1, 0))], dam_river)
+    yield "17 and 13", edited([with_record(1, stages=(30_001,), **above)], dam_river)
+    yield "17 and 14", edited([with_record(1, stages=(499,), **above)], dam_river)
+    yield "17 and 16", edited([*over, with_record(1, rains=(3_000, 3_000), **above)], dam_river)
+    yield "12, 17, 13 and 16", edited([*over, with_record(1, rains=(3_000, 3_001), stages=(30_001,), **above)], dam_river)
+
+
 def last_places():
-    """Rules 5 to 7 and 12 to 14 at the last of 64 elements, 16 gauges, 63 rains and 16 stages: a name, and twice a table with a record, of
-    which the first passes and the second does not."""
+    """Rules 5 to 7, 12 to 14 and 17 at the last of 64 elements, 16 gauges, 63 rains, 64 releases and 16 stages: a
+    name, and twice a table with a record, of which the first passes and the second does not."""
     def river(element=(), above=(), last_gauge=(), rain=0, stage=GAP):
         elements = [basin(down=64, area=1) for _ in range(62)] + [basin(down=64, area=1) | dict(above)] + [reach() | dict(element)]
         gauges = [gauge(number, pieces=[(30_001, 1, -500)]) for number in range(49, 65)]
         gauges[-1] |= dict(last_gauge)
         return dict(T=60, L=1, elements=elements, gauges=gauges), ((0,) * 62 + (rain,), (GAP,) * 15 + (stage,))
+
+    def dams(release=0, **last):
+        elements = [dam(down=64) for _ in range(63)] + [dam(**last)]
+        return dict(T=60, L=1, elements=elements, gauges=[]), ((), (), (CEILING,) * 63 + (release,))
 
     five = [(top, 1, -500) for top in (1, 2, 3, 4, 30_001)]
     yield "5, lag 60 and 59 of element 64", river(), river(element=dict(lag=59))
@@ -343,6 +430,8 @@ def last_places():
     yield "12, last rain 3,000 and 3,001", river(rain=3_000), river(rain=3_001)
     yield "13, last stage 30,000 and 30,001", river(stage=30_000), river(stage=30_001)
     yield "14, last stage 500 and 499", river(stage=500), river(stage=499)
+    yield "5, lag 0 and 1 of dam 64", dams(), dams(lag=1)
+    yield "17, last release C and C + 1", dams(CEILING), dams(CEILING + 1)
 
 
 def ceiling_of_curve():
@@ -417,6 +506,56 @@ def ceiling_of_numbers():
         yield f"lead variance of {count} basins", whole_input(table, [((1,) * count, ())] * 2)
 
 
+# ---- Dams ------------------------------------------------------------------------------------------------------------------------------
+
+
+def dam_rivers():
+    """(name, table, records): where a dam can stand, what it lets out and what drains into it."""
+    def river(elements, *records, gauges=(), **rest):
+        return dict(T=60, L=3, elements=elements, gauges=list(gauges)) | rest, records
+
+    def water(**rest):
+        return dict(first_discharge=7_000_000, first_variance=900, W=40) | rest
+
+    yield "in the middle", *dam_river()
+    yield "alone", *river([dam(**water())], *(((), (), (release,)) for release in (0, CEILING, CEILING + 1, 5)))
+    yield "first", *river([dam(down=2, **water()), reach(W=2)], ((), (), (CEILING,)), ((), (), (0,)), ((), (), (1,)), L=12)
+    yield "outlet", *river([basin(down=2, W=3, G=100), dam(**water())], ((90,), (), (1,)), ((0,), (), (2,)))
+    yield "into a dam", *river([dam(down=2, **water()), dam(**water(W=1))], ((), (), (8, 9)), ((), (), (0, CEILING)))
+    yield "chain of dams", *river([basin(down=2, W=3, G=100), dam(down=3, **water()), dam(down=4, **water(W=0)), dam(down=5, **water()),
+                                   reach(down=6, lag=90, W=1), dam(**water())],
+                                  ((90,), (), (10 ** 6, 2 * 10 ** 6, 3 * 10 ** 6, 4)), ((0,), (), (0, 0, 10 ** 9, 0)))
+    yield "all of 5", *river([dam(down=5 * (k < 4), **water(W=k)) for k in range(5)], ((), (), (CEILING,) * 5), ((), (), (1, 2, 3, 4, 5)))
+    yield "all of 64", *river([dam(down=(k + 1) * (k < 64), **water(W=k)) for k in range(1, 65)], ((), (), tuple(range(64))),
+                              ((), (), tuple(CEILING - k for k in range(64))), L=12)
+    fours = []  # basin, dam, reach, dam, and so on down the river
+    for number in range(1, 65, 4):
+        fours += [basin(down=number + 1, **water()), dam(down=number + 2, **water(W=number)), reach(down=number + 3, **water()),
+                  dam(down=(number + 6) * (number < 61), **water())]
+    yield "every second of 64", *river(fours, ((5,) * 16, (700,) * 16, tuple(10 ** 6 * k for k in range(32))), L=1,
+                                       gauges=[gauge(number) for number in range(3, 65, 4)])
+    yield "between gauges", *river([dam(down=2, **water()), reach(down=3, lag=90, W=5), dam(down=4, **water()), reach(W=6)],
+                                   ((), (1_200, 1_300), (20_000_000, 1)), ((), (GAP, 1_400), (0, 10 ** 9)), ((), (900, GAP), (5, 5)),
+                                   gauges=[gauge(2), gauge(4, R=9)])
+    # What drains in: above C it is refused by a reach and not by a dam.
+    for name, below, releases in (("a dam", dam(W=5), (1,)), ("a reach", reach(lag=60_000, W=5), ())):
+        for figure in ("first_discharge", "first_variance"):
+            slow = [reach(down=3, lag=60_000, **{figure: CEILING}) for _ in range(2)]
+            yield f"{figure.replace('first_', '')} above C into {name}", *river([*slow, below], ((), (), releases), ((), (), releases), T=1)
+        stages = [gauge(number, R=1, pieces=[(30_001, 1_000_000, 0)]) for number in (1, 2)]
+        yield f"margin above C into {name}", *river([reach(down=3), reach(down=3), below], ((), (1_415, 1_415), releases),
+                                                    ((), (GAP, GAP), releases), gauges=stages)
+        rainy = [basin(down=46, area=1, G=100_000_000) for _ in range(45)]
+        yield f"lead variance above C into {name}", *river([*rainy, below], ((1,) * 45, (), releases), L=12)
+    # What is let out: into a reach, in all C and C + 1.
+    half = CEILING // 2
+    for name, releases in (("C", (CEILING, 0)), ("C by two dams", (half, half)), ("C + 1 by two dams", (half, half + 1))):
+        yield f"lets {name} out", *river([dam(down=3), dam(down=3), reach()], ((), (), releases), ((), (), (0, 0)), ((), (), releases))
+    for count, name in ((40, "C"), (41, "above C")):
+        dams = [dam(down=count + 1, W=100_000_000) for _ in range(count)]
+        yield f"lets variance {name} out", *river([*dams, reach()], ((), (), (1,) * count), L=1)
+
+
 # ---- Cut, spoiled and random inputs ----------------------------------------------------------------------------------------------------
 
 
@@ -480,19 +619,21 @@ def mixed_records(random):
     """Accepted and refused records of every kind in one run."""
     table, records = some_river(random, steps=(8, 20), ways=("typical", "typical", "ceiling", "wild"))
     data = table_bytes(table)
-    for rains, stages in records:
-        rains, stages, version = list(rains), list(stages), 1
+    for rains, stages, releases in records:
+        rains, stages, releases, version = list(rains), list(stages), list(releases), 1
         for _ in range(random.choice((0, 0, 1, 2))):
-            trouble = random.choice(("version", "rain", "stage", "depth"))
+            trouble = random.choice(("version", "rain", "release", "stage", "depth"))
             if trouble == "version":
                 version = random.choice((0, 2, 255))
             elif trouble == "rain" and rains:
                 rains[random.randrange(len(rains))] = random.choice((3_000, 3_001, GAP))
+            elif trouble == "release" and releases:
+                releases[random.randrange(len(releases))] = random.choice((CEILING, CEILING + 1, 2 ** 32 - 1))
             elif trouble == "stage" and stages:
                 stages[random.randrange(len(stages))] = random.choice((30_000, 30_001, 65_534))
             elif trouble == "depth" and stages:
                 stages[random.randrange(len(stages))] = random.randint(0, 30_000)
-        data += record_bytes(rains, stages, version)
+        data += record_bytes(rains, stages, releases, version)
     if random.random() < 0.3:
         data += random.choice((b"\0", b"\0\0", b"\0\1\2", b"\xff\xff\1"))
     return data
@@ -552,6 +693,10 @@ def inputs(long=False):
         add(f"ceiling: {name}", fixed(data))
     for name, data in lowest_wins():
         add(f"lowest wins: {name}", fixed(data))
+    for name, table, records in dam_rivers():
+        add(f"dam: {name}", fixed(whole_input(table, records)))
+    for name, data in release_orders():
+        add(f"order: {name}", fixed(data))
     add("Yubetsu 2001", lambda random: YUBETSU.read_bytes())
     add("empty input", fixed(b""))
     add("no record", fixed(EXAMPLE[:-5]))
@@ -559,6 +704,8 @@ def inputs(long=False):
     add("small table", fixed(small))
     for rule, edit in rule_edits():
         add(f"rule {rule}", lambda random, edit=edit: edited([edit]))
+    for rule, edit in dam_edits():
+        add(f"rule {rule}", lambda random, edit=edit: edited([edit], dam_river))
     for _ in range(2_000 if long else 120):
         add("several rules", several_edits)
     two = two_element_input()

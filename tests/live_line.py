@@ -17,7 +17,7 @@ from pathlib import Path
 from calculator.encode import record_bytes, table_bytes
 from calculator.program import run
 from calculator.tried_figures import EXAMPLE_INPUT
-from inputs import GAP, SMALL_RECORDS, random_for, small_table, some_records, some_table
+from inputs import CEILING, DAM_RECORDS, GAP, SMALL_RECORDS, dam_table, random_for, small_table, some_records, some_table
 
 ROOT = Path(__file__).resolve().parent.parent
 PATIENCE = 2  # seconds within which an answer must come
@@ -126,11 +126,20 @@ def refused_records(line):
     line.send(SMALL, 5)
     for rains, stages, version in (((0, 0), (GAP, GAP), 2), ((3_001, 0), (GAP, GAP), 1), ((0, 0), (30_001, GAP), 1), ((0, 0), (0, GAP), 1),
                                    ((5, 6), (1_500, 999), 1)):
-        line.send(record_bytes(rains, stages, version), 3)
+        line.send(record_bytes(rains, stages, version=version), 3)
         line.answered()
     line.send(record_bytes((0,), (GAP, GAP)), 2)
     line.answered()
     line.ends()
+
+
+def releases(line):
+    """A river with dams: a release above C is answered by 17, and the run goes on."""
+    line.send(table_bytes(dam_table()), 3)
+    for record in (DAM_RECORDS[0], ((0, 0), (GAP,), (0, CEILING + 1)), DAM_RECORDS[1]):
+        line.send(record_bytes(*record), 4)
+        line.answered()
+    line.close()
 
 
 def cut_record(left):
@@ -177,7 +186,8 @@ def largest_river(line):
 
 
 LINES = {"whole records": whole_records, "bytes one by one": bytes_one_by_one, "table and record at once": table_and_record_at_once,
-         "refused records": refused_records, "refused table": refused_table, "long table": long_table, "largest river": largest_river}
+         "refused records": refused_records, "releases": releases, "refused table": refused_table, "long table": long_table,
+         "largest river": largest_river}
 LINES |= {f"record cut at {left}": cut_record(left) for left in (0, 1, 2, 3, 10)}
 LINES |= {f"table cut at {left}": cut_table(left) for left in (0, 3, 4, 9, len(SMALL) - 1)}
 

@@ -21,7 +21,8 @@ import paper
 import paper_figures
 from calculator import whole_numbers
 from calculator.program import Program, run
-from calculator.whole_numbers import BASIN, CEILING, GAP, HIGHEST_STAGE, SCALE, Figures, Refused, Rules, State, decode_table, number_at
+from calculator.whole_numbers import (BASIN, CEILING, DAM, GAP, HIGHEST_RAIN, HIGHEST_STAGE, REACH, SCALE, Figures, Refused, Rules, State,
+                                      decode_table, number_at, under_ceiling)
 from call_cases import Watched, cases
 from calls import ROOT, Library, built_driver, compare, made_calls
 from inputs import SHAPES, inputs, random_for
@@ -136,14 +137,14 @@ class GapAsStage65535(Rules):
     gap_stage = 65_535
 
     def readings(self, table, record):
-        rains, readings = super().readings(table, record)
-        _, stages = whole_numbers.record_fields(table, record)
+        rains, releases, readings = super().readings(table, record)
+        *_, stages = whole_numbers.record_fields(table, record)
         for gauge, stage in zip(table.gauges, stages):
             if stage == GAP:
                 pieces = gauge.pieces[:gauge.used]
                 piece = next((piece for piece in pieces if self.gap_stage < piece.top), pieces[-1])
                 readings[gauge.element] = min(CEILING, piece.a * (self.gap_stage + piece.b) ** 2 // 1_000), gauge.noise
-        return rains, readings
+        return rains, releases, readings
 
 
 class GapAsStageZero(GapAsStage65535):
@@ -213,23 +214,100 @@ class NextPieceAtTop(Rules):
     """Stage at or below the top, in place of below it."""
 
     def readings(self, table, record):
-        rains, readings = super().readings(table, record)
-        _, stages = whole_numbers.record_fields(table, record)
+        rains, releases, readings = super().readings(table, record)
+        *_, stages = whole_numbers.record_fields(table, record)
         for gauge, stage in zip(table.gauges, stages):
             if stage != GAP:
                 piece = next(piece for piece in gauge.pieces if stage <= piece.top)
                 if 0 <= stage + piece.b and piece.a * (stage + piece.b) ** 2 // 1_000 <= CEILING:
                     readings[gauge.element] = piece.a * (stage + piece.b) ** 2 // 1_000, gauge.noise
-        return rains, readings
+        return rains, releases, readings
 
 
 class LastReadingForAll(Rules):
     """Every gauge gets the last gauge's reading."""
 
     def readings(self, table, record):
-        rains, readings = super().readings(table, record)
+        rains, releases, readings = super().readings(table, record)
         last = max(readings, default=None)
-        return rains, {element: readings[last] for element in readings}
+        return rains, releases, {element: readings[last] for element in readings}
+
+
+class DamLetsInflowThrough(Rules):
+    """What drains into a dam is added to its release."""
+
+    def dam(self, element, release, old, drained):
+        return Figures(min(CEILING, release + drained.discharge), 0, element.system_noise, 0)
+
+
+class DamThroughStorage(Rules):
+    """A release is blended with the old discharge, as an inflow is."""
+
+    def dam(self, element, release, old, drained):
+        discharge, _ = self.blend(old.discharge, old.margin, release, 0, SCALE // 2, 3)
+        return Figures(discharge, 0, element.system_noise, 0)
+
+
+class OldRelease(Rules):
+    """A dam lets out what the state before held."""
+
+    def dam(self, element, release, old, drained):
+        return Figures(old.discharge, 0, element.system_noise, 0)
+
+
+class DamKeepsFirstVariance(Rules):
+    def dam(self, element, release, old, drained):
+        return Figures(release, 0, old.variance, 0)
+
+
+class DamWithoutNoise(Rules):
+    def dam(self, element, release, old, drained):
+        return Figures(release, 0, 0, 0)
+
+
+class DamNoiseAdded(Rules):
+    """W added to the variance from before, at each step and lead."""
+
+    def dam(self, element, release, old, drained):
+        return Figures(release, 0, min(CEILING, old.variance + element.system_noise), 0)
+
+
+class DamMarginOne(Rules):
+    def dam(self, element, release, old, drained):
+        return Figures(release, 1, element.system_noise, 0)
+
+
+class NoReleaseAtLeads(Rules):
+    def held_discharges(self, table, state):
+        return dict.fromkeys(super().held_discharges(table, state), 0)
+
+
+class FirstDischargeAtLeads(Rules):
+    def held_discharges(self, table, state):
+        return {number: table.elements[number - 1].first_discharge for number in super().held_discharges(table, state)}
+
+
+class LastReleaseForAll(Rules):
+    def readings(self, table, record):
+        rains, releases, readings = super().readings(table, record)
+        return rains, releases[-1:] * len(releases), readings
+
+
+class ReleasesBeforeRains(Rules):
+    def readings(self, table, record):
+        rains, stages = 3 + 4 * table.dams, 3 + 4 * table.dams + 2 * table.basins
+        if len(record) == stages + 2 * len(table.gauges):
+            record = record[:3] + record[rains:stages] + record[3:rains] + record[stages:]
+        return super().readings(table, record)
+
+
+class ReleasesAfterStages(Rules):
+    def readings(self, table, record):
+        stages = 3 + 2 * table.basins
+        releases = stages + 2 * len(table.gauges)
+        if len(record) == releases + 4 * table.dams:
+            record = record[:stages] + record[releases:] + record[stages:releases]
+        return super().readings(table, record)
 
 
 # ---- Wrong refusals --------------------------------------------------------------------------------------------------------------------
@@ -256,17 +334,56 @@ class HighestRecordRuleWins(Rules):
             return super().readings(table, record)
         except Refused as refused:
             if refused.number == 12:
-                _, stages = whole_numbers.record_fields(table, record)
+                *_, stages = whole_numbers.record_fields(table, record)
                 if any(stage > HIGHEST_STAGE and stage != GAP for stage in stages):
                     raise Refused(13)
             raise
+
+
+class SeventeenAfterThirteen(Rules):
+    """The numbers for no in their own order: 13 before 17."""
+
+    def readings(self, table, record):
+        try:
+            return super().readings(table, record)
+        except Refused as refused:
+            *_, stages = whole_numbers.record_fields(table, record)
+            if refused.number == 17 and any(stage > HIGHEST_STAGE and stage != GAP for stage in stages):
+                raise Refused(13)
+            raise
+
+
+class SeventeenBeforeTwelve(Rules):
+    def readings(self, table, record):
+        try:
+            return super().readings(table, record)
+        except Refused as refused:
+            if refused.number == 12 and max(whole_numbers.record_fields(table, record)[1], default=0) > CEILING:
+                raise Refused(17)
+            raise
+
+
+class ReleaseOfCeilingRefused(Rules):
+    most_release = CEILING - 1
+
+
+class ReleaseAboveCeilingTaken(Rules):
+    most_release = CEILING + 1
+
+
+class DamInflowJudged(Rules):
+    """Rule 16 on what drains into a dam."""
+
+    def dam(self, element, release, old, drained):
+        under_ceiling(*drained.numbers())
+        return super().dam(element, release, old, drained)
 
 
 class RainGap(Rules):
     """Rain 65535 taken for a gap, as no rain."""
 
     def readings(self, table, record):
-        if len(record) == 3 + 2 * table.basins + 2 * len(table.gauges):
+        if len(record) >= 3 + 2 * table.basins:
             patched = bytearray(record)
             for at in range(3, 3 + 2 * table.basins, 2):
                 if number_at(record, at, 2) == GAP:
@@ -343,6 +460,11 @@ class ElevenEndsRun(Program):
 
 class TenGoesOn(Program):
     last_ending_refusal = 9
+
+
+class SeventeenEndsRun(Program):
+    def run(self, data):
+        return b"".join(super().run(data).partition(b" refused 17\n")[:2])
 
 
 class ForecastRefusalDropsStep(Program):
@@ -456,8 +578,8 @@ class RefusedStepBegun(Library):
 
     def refused(self, call, number):
         reply = super().refused(call, number)
-        if call.entry == "step" and number == 16:
-            table = decode_table(call.table)
+        table = decode_table(call.table) if call.entry == "step" and number == 16 else None
+        if table and table.elements[0].kind != DAM:
             element, rain = table.elements[0], number_at(call.record, 3, 2)
             inflow = self.rules.step_rain_inflow(element, rain) if element.kind == BASIN else Figures(0, 0, 0, 0)
             try:
@@ -526,19 +648,19 @@ class CountsThoughRefused(Library):
 class NoMinutes(Library):
     def check(self, call):
         reply = super().check(call)
-        reply.numbers[6] = 0
+        reply.numbers[7] = 0
         return reply
 
 
 class LowByteOfMinutes(Library):
     def check(self, call):
         reply = super().check(call)
-        reply.numbers[6] %= 256
+        reply.numbers[7] %= 256
         return reply
 
 
 class OldVersion(Library):
-    """A library of version 1 with a header of version 2."""
+    """A library of version 2 with a header of version 3."""
 
     def version(self, call):
         reply = super().version(call)
@@ -554,20 +676,67 @@ class StartKeepsRains(Library):
 
 
 class StartClearsReachRains(Library):
+    kind = REACH
+
     def start(self, call):
         reply = super().start(call)
         for place, element in enumerate(decode_table(call.table).elements):
-            if element.kind != BASIN:
+            if element.kind == self.kind:
                 reply.numbers[6 + 7 * place:9 + 7 * place] = array("Q", (0, 0, 0))
         return reply
 
 
+class StartClearsDamRains(StartClearsReachRains):
+    kind = DAM
+
+
 class StepMovesReachRains(Library):
+    kind = REACH
+
     def step(self, call):
         reply = super().step(call)
         for place, element in enumerate(decode_table(call.table).elements):
-            if element.kind != BASIN:
+            if element.kind == self.kind:
                 reply.numbers[6 + 7 * place:9 + 7 * place] = array("Q", (0, *call.state.rains[place][:2]))
+        return reply
+
+
+class StepMovesDamRains(StepMovesReachRains):
+    kind = DAM
+
+
+class DamLeadsKeepMargin(Library):
+    """At the leads a dam keeps one of the state's figures."""
+    figure = 1
+
+    def forecast(self, call):
+        reply, table = super().forecast(call), decode_table(call.table)
+        for number in table.numbers_of(DAM):
+            kept = call.state.figures[number - 1].numbers()[self.figure]
+            for lead in range(1, table.leads + 1):
+                reply.numbers[4 * ((number - 1) * (table.leads + 1) + lead) + self.figure] = kept
+        return reply
+
+
+class DamLeadsKeepVariance(DamLeadsKeepMargin):
+    figure = 2
+
+
+class DamLeadsKeepVarianceMargin(DamLeadsKeepMargin):
+    figure = 3
+
+
+class DamsNotTold(Library):
+    def check(self, call):
+        reply = super().check(call)
+        reply.numbers[4] = 0
+        return reply
+
+
+class RecordBytesWithoutReleases(Library):
+    def check(self, call):
+        reply = super().check(call)
+        reply.numbers[5] -= 4 * reply.numbers[4]
         return reply
 
 
@@ -581,10 +750,35 @@ class LooksBeyond(Rules):
 
 
 class LooksAtReachRains(Rules):
+    kind = REACH
+
     def check_state(self, table, state):
         super().check_state(table, state)
-        if max(max(rains) for rains in state.rains[:state.count]) > 3_000:
+        if any(max(state.rains[number - 1]) > HIGHEST_RAIN for number in table.numbers_of(self.kind)):
             raise Refused(8)
+
+
+class LooksAtDamRains(LooksAtReachRains):
+    kind = DAM
+
+
+class LooksNotAtDams(Rules):
+    """Rule 8 without the figures of dams."""
+
+    def check_state(self, table, state):
+        dams = table.numbers_of(DAM)
+        figures = [Figures(0, 0, 0, 0) if number in dams else each for number, each in enumerate(state.figures, 1)]
+        super().check_state(table, replace(state, figures=figures))
+
+
+class DamKeepsMargin(Rules):
+    def dam(self, element, release, old, drained):
+        return Figures(release, old.margin, element.system_noise, 0)
+
+
+class DamKeepsVarianceMargin(Rules):
+    def dam(self, element, release, old, drained):
+        return Figures(release, 0, element.system_noise, old.variance_margin)
 
 
 class LooksNotAt(Rules):
@@ -635,16 +829,17 @@ REACHING_THE_CEILING = ("basin inflow", "reach inflow", "reach inflow margin", "
                         "moved margin", "moved variance", "corrected margin")
 
 
-# What is no wrong program by itself: standard input does not reach what these look at.
-NO_PROGRAMS = (Rules, Program, WrongAnswer, Watched, LooksBeyond, LooksAtReachRains, LooksNotAt, LooksNotAtLastPlace, LowHalves, AllThreeRains,
-               CeilingOf)
+# Standard input does not reach what these look at.
+ONLY_LIBRARIES = (LooksBeyond, LooksAtReachRains, LooksAtDamRains, LooksNotAtDams, LooksNotAtLastPlace, LowHalves, AllThreeRains,
+                  DamKeepsMargin, DamKeepsVarianceMargin)
+NO_PROGRAMS = (Rules, Program, WrongAnswer, Watched, LooksNotAt, CeilingOf, *ONLY_LIBRARIES)
 
 
 def libraries():
     for wrong in list(globals().values()):
         if isinstance(wrong, type) and issubclass(wrong, Library) and wrong is not Library:
             yield wrong.__name__, wrong()
-    for wrong in (LooksBeyond, LooksAtReachRains, LooksNotAtLastPlace, LowHalves, AllThreeRains):
+    for wrong in ONLY_LIBRARIES:
         yield wrong.__name__, Library(wrong())
     for number in range(7):
         wrong = LooksNotAt()
@@ -683,6 +878,18 @@ WRONG_IN_C = {
     "rule 10 reads two bytes of any record": ("if (size < 3 || be2(record) != size - 2 ||", "if (be2(record) != size - 2 || size < 3 ||"),
     "a step's space is kept from call to call": ("    Figures space[MOST_PLACES + 1];\n", "    static Figures space[MOST_PLACES + 1];\n",
                                                  "    memset(space, 0, sizeof *space * (t->count + 1)); /*", "    /*"),
+    "a gauge on a dam is taken": ("    if (t->elements[ELEMENT_BYTES * (g[ELEMENT] - 1u) + KIND] == DAM) return 0;\n", ""),
+    "a release above C is taken": ("        if (be4(release + 4 * k) > CEILING) return 17;\n", "        ;\n"),
+    "a dam has a weight": ("        if (e[KIND] != DAM) weights[i] =", "        weights[i] ="),
+    "a step judges what drains into a dam": ("            now = dam_figures(be4(release), noise);\n",
+                                             "            if (in.discharge > CEILING) return 1;\n"
+                                             "            now = dam_figures(be4(release), noise);\n"),
+    "a forecast judges what drains into a dam": ("            lead_dam(leads, e, own, below);\n",
+                                                 "            if (own[leads].discharge > CEILING) return 16;\n"
+                                                 "            lead_dam(leads, e, own, below);\n"),
+    "a dam's leads are the state": ("        own[lead] = held;\n", "        own[lead] = held = own[0];\n"),
+    "a down may name no dam": ("+ KIND] == BASIN)) refusal = 6;", "+ KIND] != REACH)) refusal = 6;"),
+    "a lag of 0 for all kinds": ("return be2(e + LAG) >= step_minutes &&", "return (be2(e + LAG) == 0 || be2(e + LAG) >= step_minutes) &&"),
     "an old library": ("return RIVER_VERSION;", "return RIVER_VERSION - 1;"),
 }
 

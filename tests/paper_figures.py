@@ -16,7 +16,8 @@ from calculator import tried_figures
 from calculator.encode import record_bytes, table_bytes
 from calculator.fractions_run import ExactNumbers, FractionsRun, exact_weight
 from calculator.program import cut_records, cut_table, run
-from calculator.whole_numbers import BASIN, CEILING, GAP, RULES, SCALE, Element, Figures, Piece, Rules, State, decode_table, piece_for
+from calculator.whole_numbers import (BASIN, CEILING, DAM, GAP, RULES, SCALE, Element, Figures, Piece, Rules, State, decode_table,
+                                      piece_for, record_fields)
 
 ROOT = Path(__file__).resolve().parent.parent
 SAMPLE_FOLDER = ROOT / "examples/yubetsu-2001"
@@ -80,7 +81,7 @@ class Blend:
 
 @dataclass
 class Move:
-    """One element's move: its inflow, four blends (discharge, a, b, variance) and figures."""
+    """One element's move: its inflow, four blends (discharge, a, b, variance) and figures; of a dam only these, and what drained in."""
     inflow: Figures
     blends: list
     system_noise: int
@@ -105,13 +106,18 @@ def noting(rules):
             self.moves.append(Move(inflow, self.blends[before:], element.system_noise, figures))
             return figures
 
+        def dam(self, element, release, old, drained):
+            figures = super().dam(element, release, old, drained)
+            self.moves.append(Move(drained, [], element.system_noise, figures))
+            return figures
+
     return Noted
 
 
 Noted = noting(Rules)  # tests/mutants.py puts wrong rules here and in RULES
 
 
-# ---- The example river -----------------------------------------------------------------------------------------------------------------
+# ---- The example rivers ----------------------------------------------------------------------------------------------------------------
 
 
 def bytes_of_hex(text):
@@ -119,72 +125,82 @@ def bytes_of_hex(text):
     return bytes.fromhex(" ".join(line.split("#")[0] for line in text.splitlines()))
 
 
-RIVER = bytes_of_hex((ROOT / "examples/three-elements/river.hex").read_text())
-TABLE = cut_table(RIVER)
-RECORDS = list(cut_records(RIVER, len(TABLE)))
-ELEMENTS = decode_table(TABLE).elements
-LENT = [0] * 36
+class ExampleRiver:
+    """A river of examples/, whose third record is refused."""
 
+    def __init__(self, folder):
+        self.data = bytes_of_hex((ROOT / "examples" / folder / "river.hex").read_text())
+        self.table = cut_table(self.data)
+        self.records = list(cut_records(self.data, len(self.table)))
+        self.elements = decode_table(self.table).elements
 
-def after_steps(rules, count):
-    """The state after so many accepted steps of the example, and the run in fractions after the same."""
-    state, exact = RULES.start(TABLE, State()), FractionsRun(TABLE)
-    for record in [RECORDS[0], RECORDS[1], RECORDS[3]][:count]:
-        state = rules.step(TABLE, record, state)
-        exact.step(record)
-    return state, exact
+    def after_steps(self, rules, count):
+        """The state after so many accepted steps, and the run in fractions after the same."""
+        state, exact = RULES.start(self.table, State()), FractionsRun(self.table)
+        for record in [self.records[0], self.records[1], self.records[3]][:count]:
+            state = rules.step(self.table, record, state)
+            exact.step(record)
+        return state, exact
 
+    def heads_of_columns(self):
+        return " ".join(f"element {number}" for number, _ in enumerate(self.elements, 1))
 
-def rows(*kinds):
-    """A table's rows: each kind is a function from an element's place to its cell."""
-    return "\n".join(" | ".join(kind(place) for place in range(3)) for kind in kinds)
+    def rows(self, *kinds):
+        """A table's rows: each kind is a function from an element's place to its cell."""
+        return "\n".join(" | ".join(kind(place) for place, _ in enumerate(self.elements)) for kind in kinds)
 
+    def taken_in(self, moves, given, figure, margin, basin):
+        """The row of an inflow or of its variance: `basin` writes a basin's own, a reach has the sums of two figures of all that drain
+        in, a dam has none."""
+        def summed(place, name):
+            above = [higher for higher, element in enumerate(self.elements) if element.down == place + 1]
+            return f"{' + '.join(n(getattr(given[higher], name)) for higher in above)} = {n(getattr(moves[place].inflow, name))}"
 
-def above(place):
-    return [higher for higher, element in enumerate(ELEMENTS) if element.down == place + 1]
-
-
-def taken_in(moves, given, figure, margin, basin):
-    """The row of an inflow or of its variance: `basin` writes a basin's own, a reach has the sums of two figures of all that drain in."""
-    def summed(place, name):
-        parts = " + ".join(n(getattr(given[higher], name)) for higher in above(place))
-        return f"{parts} = {n(getattr(moves[place].inflow, name))}"
-
-    def cell(place):
-        if ELEMENTS[place].kind == BASIN:
-            return f"{basin(place)}, margin {getattr(moves[place].inflow, margin)}"
-        return f"{summed(place, figure)}, margin {summed(place, margin)}"
-
-    return cell
-
-
-def rain_inflow(moves, rains, divisor):
-    """A basin's inflow as the page writes it: by the latest of its rains."""
-    def written(place):
-        element = ELEMENTS[place]
-        return f"[5 × {rains[place][0]} × {n(element.area)} × {n(element.runoff)} / {divisor}] = {n(moves[place].inflow.discharge)}"
-    return written
-
-
-def moves_written(moves, given, basin_inflow, basin_variance):
-    """The table of a step or a lead. `given` are the figures that each element lets out; the two functions write a basin's inflow."""
-    def part(which):
         def cell(place):
-            blend = moves[place].blends[which]
-            return f"[{blend.quotient}] = {n(blend.value)}, margin {blend.margin_written()}"
+            if self.elements[place].kind == DAM:
+                return "none"
+            if self.elements[place].kind == BASIN:
+                return f"{basin(place)}, margin {getattr(moves[place].inflow, margin)}"
+            return f"{summed(place, figure)}, margin {summed(place, margin)}"
+
         return cell
 
-    def variance(place):
-        return f"[{moves[place].blends[3].quotient}] + {n(moves[place].system_noise)} = {n(moves[place].figures.variance)}"
+    def rain_inflow(self, moves, rains, divisor):
+        """A basin's inflow as the page writes it: by the latest of its rains."""
+        def written(place):
+            element = self.elements[place]
+            return f"[5 × {rains[place][0]} × {n(element.area)} × {n(element.runoff)} / {divisor}] = {n(moves[place].inflow.discharge)}"
+        return written
 
-    return rows(taken_in(moves, given, "discharge", "margin", basin_inflow),
-                taken_in(moves, given, "variance", "variance_margin", basin_variance), lambda place: moves[place].blends[0].written(),
-                lambda place: moves[place].blends[0].margin_written(), part(1), part(2), variance,
-                lambda place: moves[place].blends[3].margin_written())
+    def rain_noise(self, moves, lead):
+        """A basin's inflow variance at a lead as the page writes it."""
+        return lambda place: f"{lead} × {n(self.elements[place].rain_noise)} = {n(moves[place].inflow.variance)}"
+
+    def moves_written(self, moves, given, basin_inflow, basin_variance):
+        """The table of a step or a lead. `given` are the figures that each element lets out; the two functions write a basin's inflow. A
+        dam has figures and nothing on the way to them."""
+        def of_dam(dam, other):
+            return lambda place: dam(moves[place].figures) if self.elements[place].kind == DAM else other(moves[place])
+
+        def part(which):
+            def cell(move):
+                blend = move.blends[which]
+                return f"[{blend.quotient}] = {n(blend.value)}, margin {blend.margin_written()}"
+            return of_dam(lambda figures: "none", cell)
+
+        return self.rows(
+            self.taken_in(moves, given, "discharge", "margin", basin_inflow),
+            self.taken_in(moves, given, "variance", "variance_margin", basin_variance),
+            of_dam(lambda figures: n(figures.discharge), lambda move: move.blends[0].written()),
+            of_dam(lambda figures: n(figures.margin), lambda move: move.blends[0].margin_written()), part(1), part(2),
+            of_dam(lambda figures: n(figures.variance),
+                   lambda move: f"[{move.blends[3].quotient}] + {n(move.system_noise)} = {n(move.figures.variance)}"),
+            of_dam(lambda figures: n(figures.variance_margin), lambda move: move.blends[3].margin_written()))
 
 
-def heads_of_columns():
-    return " ".join(f"element {place + 1}" for place in range(3))
+THREE_ELEMENTS, ONE_DAM = ExampleRiver("three-elements"), ExampleRiver("one-dam")
+RIVER, TABLE, RECORDS, ELEMENTS = THREE_ELEMENTS.data, THREE_ELEMENTS.table, THREE_ELEMENTS.records, THREE_ELEMENTS.elements
+LENT = [0] * 48
 
 
 # ---- The examples, in the page's order ---------------------------------------------------------------------------------------------------
@@ -278,9 +294,23 @@ def figures_written(figures):
     return f"{n(figures.discharge)} {n(figures.margin)} {n(figures.variance)} {n(figures.variance_margin)}"
 
 
+def step_written(river, moves, state):
+    """The table of a step, `state` being the one after it."""
+    inflow = river.rain_inflow(moves, state.rains, "18")
+    table = river.moves_written(moves, state.figures, inflow, lambda place: n(moves[place].inflow.variance))
+    return f"{river.heads_of_columns()} {table}"
+
+
+def lead_written(river, moves, state):
+    """The table of lead 1 after the first step, `state` being the one after that."""
+    inflow = river.rain_inflow(moves, state.rains, "(18 × 1)")
+    table = river.moves_written(moves, [move.figures for move in moves], inflow, river.rain_noise(moves, 1))
+    return f"{river.heads_of_columns()} {table}"
+
+
 def one_step():
     rules = Noted()
-    state, exact = after_steps(rules, 1)
+    state, exact = THREE_ELEMENTS.after_steps(rules, 1)
     after, moves = state.figures, rules.moves
     z = RULES.curve(piece_for(decode_table(TABLE).gauges[0], 1_400), 1_400)
     final = []
@@ -289,36 +319,29 @@ def one_step():
         final.append(f"element {place + 1} {figures_written(after[place])} {rains} {d(x, 3)} {d(v, 3)}")
     return f"""{table_told()}
     60 {n(rules.weight(60, 60))} 120 {n(rules.weight(60, 120))}
-    {heads_of_columns()}
-    {moves_written(moves, after, rain_inflow(moves, state.rains, "18"), lambda place: n(moves[place].inflow.variance))}
+    {step_written(THREE_ELEMENTS, moves, state)}
     element 3 {n(z)} {reading_written(rules, moves[2].figures, z, 200, after[2])}
     {" ".join(final)} {state.steps}"""
 
 
 def one_lead():
-    state, _ = after_steps(RULES, 1)
+    state, _ = THREE_ELEMENTS.after_steps(RULES, 1)
     rules = Noted()
     _, answer = rules.forecast(TABLE, state, LENT)
-    moves, second = rules.moves[:3], rules.moves[3:]
-    given = [move.figures for move in moves]
-
-    def variance(lead, moved):
-        return lambda place: f"{lead} × {n(ELEMENTS[place].rain_noise)} = {n(moved[place].inflow.variance)}"
-
+    moves, second = rules.moves[:3], THREE_ELEMENTS.rain_noise(rules.moves[3:], 2)
     at_lead_2 = [Figures(*answer[12 * place + 8:12 * place + 12]) for place in range(3)]
     return f"""lead 1 c = 1 {state.rains[0][0]} {state.rains[1][0]}
-    {heads_of_columns()}
-    {moves_written(moves, given, rain_inflow(moves, state.rains, "(18 × 1)"), variance(1, moves))}
-    lead 2 {variance(2, second)(0)} {variance(2, second)(1)}
+    {lead_written(THREE_ELEMENTS, moves, state)}
+    lead 2 {second(0)} {second(1)}
     {" ".join(f"element {place + 1} {figures_written(figures)}" for place, figures in enumerate(at_lead_2))}
-    element 3 {n(state.figures[2].margin)} {n(given[2].margin)} {n(at_lead_2[2].margin)}"""
+    element 3 {n(state.figures[2].margin)} {n(moves[2].figures.margin)} {n(at_lead_2[2].margin)}"""
 
 
 def later_rains():
     """The mean of the last rains after the second and the third accepted step."""
     found = []
     for count in (2, 3):
-        state, _ = after_steps(RULES, count)
+        state, _ = THREE_ELEMENTS.after_steps(RULES, count)
         assert state.steps == count
         for place in (0, 1):
             element, rains = ELEMENTS[place], state.rains[place][:count]
@@ -326,6 +349,41 @@ def later_rains():
             found.append(f"element {place + 1} {' + '.join(map(str, rains))} = {sum(rains)} [5 × {sum(rains)} × {n(element.area)} × "
                          f"{n(element.runoff)} / (18 × {count})] = {n(inflow.discharge)}")
     return f"c = 2 {found[0]} {found[1]} c = 3 {found[2]} {found[3]}"
+
+
+def dam_river_told():
+    """The table and first record of the river with a dam in words."""
+    table = decode_table(ONE_DAM.table)
+    upper, dam, lower, reach = table.elements
+    (rains, releases, (stage,)), gauge = record_fields(table, ONE_DAM.records[0]), table.gauges[0]
+    assert dam.lag == 0 and gauge.element == 4
+
+    def first_and_noise(element):
+        return f"{n(element.first_discharge)} {n(element.first_variance)} {element.system_noise}"
+
+    def basin(element):
+        size = f"{element.lag} {element.area // 100} {n(element.area)} {element.runoff}"
+        return f"{element.down} {size} {first_and_noise(element)} {n(element.rain_noise)}"
+
+    return f"""T = {table.step_minutes} element 1 {basin(upper)} element 2 {dam.down} {first_and_noise(dam)} element 3 {basin(lower)}
+    element 4 {reach.down} {reach.lag} {first_and_noise(reach)} {n(gauge.pieces[0].a)} {n(gauge.pieces[0].b)} {n(gauge.noise)}
+    {rains[0]} {rains[1]} {n(releases[0])} {n(stage)}"""
+
+
+def river_with_a_dam():
+    rules, leads = Noted(), Noted()
+    state, exact = ONE_DAM.after_steps(rules, 1)
+    _, answer = leads.forecast(ONE_DAM.table, state, LENT)
+    (dam_1, dam_2), (reach_1, reach_2) = ([Figures(*answer[12 * place + 4 * lead:][:4]) for lead in (1, 2)] for place in (1, 3))
+    after_2 = ONE_DAM.after_steps(RULES, 2)[0].figures
+    return f"""{dam_river_told()}
+    {step_written(ONE_DAM, rules.moves, state)}
+    element 1 {n(rules.moves[1].inflow.discharge)} element 4 {n(rules.blends[-1].y)} {figures_written(state.figures[3])}
+    {d(exact.figures[1][0], 0)} {d(exact.figures[1][1], 0)} {d(exact.figures[3][0], 3)} {d(exact.figures[3][1], 3)} element 4
+    lead 1 {lead_written(ONE_DAM, leads.moves[:4], state)}
+    lead 2 {figures_written(dam_2)} element 4 {figures_written(reach_2)}
+    {n(after_2[1].discharge)} element 4 {n(after_2[3].discharge)} lead 1 {n(reach_1.discharge)} {root(reach_1.variance, 2)}
+    {n(dam_1.discharge)}"""
 
 
 def weight_errors():
@@ -461,7 +519,7 @@ def lost_byte():
     at = len(TABLE) + len(RECORDS[0]) - 1
     data = RIVER[:at] + RIVER[at + 1:]
     first, second = cut_records(data, len(TABLE))
-    right, wrong = after_steps(RULES, 1)[0].figures[2], RULES.step(TABLE, first, RULES.start(TABLE, State())).figures[2]
+    right, wrong = THREE_ELEMENTS.after_steps(RULES, 1)[0].figures[2], RULES.step(TABLE, first, RULES.start(TABLE, State())).figures[2]
     last = run(data).splitlines()[-1].decode()
     assert len(second) < 2 + int.from_bytes(second[:2], "big")  # it waits for more
     return f"""{first[-2:].hex(" ").upper()} {n(int.from_bytes(first[-2:], "big"))} {n(1_400)} {n(wrong.discharge)} {n(wrong.margin)} 3
@@ -479,12 +537,13 @@ def failing_rain_line():
 
 
 def figures_to_try():
-    """Document 01's tried figures; tried_figures.check() asks them of the calculator once more."""
+    """Document 01's tried figures, which tried_figures.check() asks of the calculator once more, and the highest release."""
     tried_figures.check()
     rules, piece = RULES, Piece(30_001, 20_000, -500)
     high = rules.correct(Figures(1_000_000, 0, 300, 0), 2_000_000, 100)
     low = rules.correct(Figures(7, 0, 0, 0), 9, 1)
     value, margin = rules.blend(3, 0, 4, 0, 500_000_000, 0)
+    assert not refused_with(release=CEILING)
     return f"""60 60 {n(rules.weight(60, 60))} 1 {n(60_000)} {n(rules.weight(1, 60_000))}
     3 4 0 {n(500_000_000)} 0 {value} {margin}
     300 0 100 {n(1_000_000)} 0 {n(2_000_000)} {n(SCALE * 300 // 400)} {n(high.discharge)} {high.margin} {high.variance}
@@ -494,21 +553,24 @@ def figures_to_try():
     {tried_figures.refusal(rules.curve, piece, 499)}
     {n(1_000)} {n(30_001)} 999 1 {n(1_000)} 2
     1 1 {refused_with(down=1)} {n(3_000)} {n(3_001)} {refused_with(rain=3_001)} {n(30_000)} {n(30_001)} {refused_with(stage=30_001)}
+    {n(CEILING)} {n(CEILING + 1)} {refused_with(release=CEILING + 1)} {n(30_001)}
+    {refused_with(release=CEILING + 1, stage=30_001)}
     36 60 60 {n(1_000)} {n(1_000)} 100"""
 
 
-def refused_with(down=0, rain=3_000, stage=30_000):
-    """What the program prints last for one small basin and one gauge: the refusal's number, or nothing where the record passes."""
-    elements = [dict(kind=1, down=down, lag=60, area=10, f=1_000)]
+def refused_with(down=0, rain=3_000, release=0, stage=30_000):
+    """What the program prints last for one small basin, its gauge and a dam: the refusal's number, or nothing where the record passes."""
+    elements = [dict(kind=1, down=down, lag=60, area=10, f=1_000), dict(kind=3)]
     table = dict(T=60, L=1, elements=elements, gauges=[dict(element=1, R=1_000, pieces=[(30_001, 1, 0)])])
-    last = run(table_bytes(table) + record_bytes((rain,), (stage,))).splitlines()[-1].decode()
+    last = run(table_bytes(table) + record_bytes((rain,), (stage,), (release,))).splitlines()[-1].decode()
     return last.split()[2] if "refused" in last else ""
 
 
 def worked():
     """By name of the example: its numbers as text, in the page's order."""
     return {"the weight": the_weight, "one move": one_move, "one reading": one_reading, "one step of a river": one_step,
-            "one lead": one_lead, "the mean of the last rains": later_rains, "the weight's 3": weight_errors,
+            "one lead": one_lead, "the mean of the last rains": later_rains, "a river with a dam": river_with_a_dam,
+            "the weight's 3": weight_errors,
             "margins of the sample river": sample_margins, "noise from a doubt": noises, "rain, stage and curve": rain_and_curve,
             "the highest rain of a basin": basin_sizes, "the sum of variances": variance_sum,
             "a margin that grows from reading to reading": growing_margin,

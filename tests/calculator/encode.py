@@ -31,6 +31,8 @@ def table_bytes(table):
     return big_endian(table.get("length", 6 + len(body)), 4) + head + body
 
 
-def record_bytes(rains, stages, version=1, length=None):
-    body = big_endian(version, 1) + b"".join(big_endian(value, 2) for value in (*rains, *stages))
+def record_bytes(rains, stages, releases=(), version=1, length=None):
+    """The releases stand between rains and stages."""
+    fields = [(rain, 2) for rain in rains] + [(release, 4) for release in releases] + [(stage, 2) for stage in stages]
+    body = big_endian(version, 1) + b"".join(big_endian(value, size) for value, size in fields)
     return big_endian(len(body) if length is None else length, 2) + body

@@ -1,4 +1,4 @@
-"""Document 01, "The run in fractions": the same steps with exact F, no rounding, no margins and no ceiling.
+"""Document 01, "The run in fractions", with M-100's dams: the same steps with exact F, no rounding, no margins and no ceiling.
 
 It is fed an accepted table, the records of accepted steps and nothing else, decodes them by itself and keeps its own state, so that it
 shares no line with whole_numbers.py.
@@ -102,7 +102,7 @@ class FractionsRun:
         for at in range(10 + 26 * count, 10 + 26 * count + 46 * gauge_count, 46):
             element, used, noise = unpack_from(">BBI", table, at)
             self.gauges.append((element, noise, list(iter_unpack(">HIh", table[at + 6:at + 6 + 8 * used]))))
-        self.basins = [place for place, element in enumerate(self.elements) if element[0] == 1]
+        self.basins, self.dams = ([place for place, element in enumerate(self.elements) if element[0] == kind] for kind in (1, 3))
         self.above = [[higher for higher, element in enumerate(self.elements) if element[1] == place + 1] for place in range(count)]
         self.read = set()  # places where a reading has come in
         self.start()
@@ -113,10 +113,14 @@ class FractionsRun:
         self.rains = {place: [] for place in self.basins}
         self.read = set()
 
-    def moved(self, figures, rain_inflow, readings):
-        """One step of all elements: rain_inflow(place) gives a basin's inflow and its variance, readings z and R by place."""
+    def moved(self, figures, rain_inflow, releases, readings):
+        """One step of all elements: rain_inflow(place) gives a basin's inflow and its variance; by place, releases has a dam's discharge,
+        readings z and R."""
         new = []
         for place, (kind, _, lag, _, _, _, _, system_noise, _) in enumerate(self.elements):
+            if kind == 3:
+                new.append((releases[place], self.numbers.of(system_noise)))
+                continue
             if kind == 1:
                 inflow, inflow_variance = map(self.numbers.of, rain_inflow(place))
             else:
@@ -132,10 +136,12 @@ class FractionsRun:
         return new
 
     def step(self, record):
-        fields = unpack(f">{(len(record) - 3) // 2}H", record[3:])
-        rains = dict(zip(self.basins, fields))
+        counts = len(self.basins), len(self.dams), len(self.gauges)
+        fields = unpack(">{}H{}I{}H".format(*counts), record[3:])
+        rains, rest = dict(zip(self.basins, fields)), fields[len(self.basins):]
+        releases = {place: self.numbers.of(release) for place, release in zip(self.dams, rest)}
         readings = {}
-        for (element, noise, pieces), stage in zip(self.gauges, fields[len(rains):]):
+        for (element, noise, pieces), stage in zip(self.gauges, rest[len(self.dams):]):
             if stage != 65_535:
                 _, a, b = next(piece for piece in pieces if stage < piece[0])
                 readings[element - 1] = Fraction(a * (stage + b) ** 2, 1_000), noise
@@ -144,14 +150,14 @@ class FractionsRun:
         def rain_inflow(place):
             return Fraction(5 * rains[place] * self.elements[place][3] * self.elements[place][4], 18), 0
 
-        self.figures = self.moved(self.figures, rain_inflow, readings)
+        self.figures = self.moved(self.figures, rain_inflow, releases, readings)
         self.steps += 1
         for place in self.basins:
             self.rains[place] = [rains[place]] + self.rains[place][:2]
 
     def forecast(self):
         """(discharge, variance) by lead 0 to L, then by element; the run itself stays."""
-        by_lead = [self.figures]
+        by_lead, held = [self.figures], {place: self.figures[place][0] for place in self.dams}
         for lead in range(1, self.leads + 1):
 
             def rain_inflow(place):
@@ -159,7 +165,7 @@ class FractionsRun:
                 mean = Fraction(sum(self.rains[place]), len(self.rains[place])) if self.rains[place] else 0
                 return mean * 5 * area * runoff / 18, lead * rain_noise
 
-            by_lead.append(self.moved(by_lead[-1], rain_inflow, {}))
+            by_lead.append(self.moved(by_lead[-1], rain_inflow, held, {}))
         return by_lead
 
     def places_above(self):

@@ -4,7 +4,8 @@ use mathlib.Core.Bool.{Bool}
 use mathlib.Core.Path.{_≡_, refl, ap}
 use native.Mathlib.Omega.{arith}
 use Rattle.method.specs.declared.Figures.{Figures}
-use Rattle.method.specs.Inflow.{forecastInflow}
+use Rattle.method.specs.Inflow.{noInflow, forecastInflow}
+use Rattle.elements.proofs.KindLaws.{kind-cases}
 use Rattle.exact.specs.Exact.{ExactFigures}
 use Rattle.exact.specs.Margins.{Follows}
 use Rattle.table.specs.Tables.{TableValues}
@@ -12,8 +13,9 @@ use Rattle.table.specs.Bounds.{TableBounds}
 use Rattle.record.specs.declared.Observation.the-variants.{Nothing}
 use Rattle.state.specs.States.{State, stepsOf, figuresOf}
 use Rattle.state.proofs.BoundsLaws.{state-bounds}
+use Rattle.element_step.specs.ElementStep.{released, ownOf}
 use Rattle.network.specs.Step.{noObservation}
-use Rattle.network.specs.Forecast.{forecastOwn, leadFigures}
+use Rattle.network.specs.Forecast.{leadInflow, forecastOwn, leadFigures}
 use Rattle.network.specs.Answer.{forecastFigures}
 use Rattle.network.proofs.NumbersLaws.{lead-part}
 use Rattle.exact_run.specs.ExactForecast.{ExactState, exactLeadFigures}
@@ -25,7 +27,7 @@ use Rattle.claim.specs.FractionRun.{exactStateHanded, exactForecastHande
 use Rattle.claim.specs.Claim.{Pairwise, All, WithinMargins, UnderLimit}
 use Rattle.claim.proofs.ListLaws.{near-listed, near-by-lead, every-listed, every-by-lead}
 use Rattle.entries.proofs.ForecastLaws.{Forecasting, lead-fits}
-use Rattle.claim.proofs.CeilingLaws.{inflow-under}
+use Rattle.claim.proofs.CeilingLaws.{own-under, above-under}
 use Rattle.claim.proofs.TogetherLaws.{Limited, Together}
 
 -- figures that follow are within their margins, at equal step counts
@@ -56,10 +58,12 @@ module _ (t : TableValues) (s : State) (x : ExactState) (hasReading : ℕ → Bo
 
   -- the leads of an accepted forecast
   module _ (b : TableBounds t) (call : Forecasting t s) where
-    -- a basin's inflow has margin 1
+    -- what an element has of its own has margin 1 or none
     own-margin : (lead i : ℕ) → forecastOwn t s lead i .«discharge_margin» .0 ≤ 1
-    unfolding forecastOwn forecastInflow
-    own-margin lead i = omega arith
+    unfolding forecastOwn ownOf leadInflow forecastInflow released noInflow
+    own-margin lead i =
+        kind-cases (λ (f : Figures). f .«discharge_margin» .0 ≤ 1) (t .element i .kind) (λ _. omega arith) (λ _. omega arith)
+        (λ _. omega arith) (λ _ _ _. omega arith)
 
     -- "leads 1 to L are steps without readings"
     none : (i : ℕ) → noObservation i ≡ Nothing
@@ -76,7 +80,8 @@ module _ (t : TableValues) (s : State) (x : ExactState) (hasReading : ℕ → Bo
           limit-step t (forecastOwn t s (suc lead)) noObservation (leadFigures t s lead) hasReading hasReading (stepsOf s + lead) b
               (omega (arith, state-bounds t s (call .fits) .steps, b .leadsMost))
               (λ k n. lead-fits t s call lead (omega arith) k n .discharge)
-              (inflow-under t (forecastOwn t s (suc lead)) noObservation (leadFigures t s lead) (lead-part t s lead (t .leads) m (call .under)))
+              (own-under t (forecastOwn t s (suc lead)) noObservation (leadFigures t s lead) (lead-part t s lead (t .leads) m (call .under)))
+              (above-under t (forecastOwn t s (suc lead)) noObservation (leadFigures t s lead) (lead-part t s lead (t .leads) m (call .under)))
               (λ k n. own-margin (suc lead) k)
               (λ k h. h)
               (λ k n h. none k)

@@ -7,9 +7,9 @@ use native.Mathlib.Numerals.{add-one}
 use native.Mathlib.Omega.{arith}
 use lib.ListN.{length}
 use Rattle.sizes.specs.Sizes.{stateNumbers}
-use Rattle.units.specs.Units.{C}
 use Rattle.method.specs.declared.Figures.{Figures}
-use Rattle.method.specs.Inflow.{stepInflow}
+use Rattle.method.specs.Inflow.{stepInflow, noInflow}
+use Rattle.elements.proofs.KindLaws.{kind-cases}
 use Rattle.table.specs.Tables.{TableValues}
 use Rattle.table.specs.Bounds.{TableBounds}
 use Rattle.record.specs.Records.{Input, inputAt}
@@ -17,8 +17,8 @@ use Rattle.state.specs.States.{State, stepsOf, figuresOf}
 use Rattle.state.specs.Start.{firstFigures, started}
 use Rattle.state.proofs.StateLaws.{started-length, started-figures}
 use Rattle.state.proofs.BoundsLaws.{state-bounds}
-use Rattle.element_step.specs.ElementStep.{inflowOf}
-use Rattle.network.specs.Step.{networkDown, aboveOf, observedIn, stepOwn, stepFigures, stepped, stepNumbers}
+use Rattle.element_step.specs.ElementStep.{released, ownOf}
+use Rattle.network.specs.Step.{networkDown, observedIn, stepOwn, stepFigures, stepped, stepNumbers}
 use Rattle.network.proofs.StepLaws.{stepped-length, stepped-steps, stepped-figures}
 use Rattle.entries.proofs.NextLaws.{Stepping}
 use Rattle.exact_run.specs.ExactForecast.{ExactState}
@@ -28,7 +28,7 @@ use Rattle.exact_run.proofs.ForecastNear.{Agrees}
 use Rattle.exact_run.proofs.RunNear.{start-agrees, step-agrees}
 use Rattle.exact_run.proofs.LimitLaws.{limit-step}
 use Rattle.claim.specs.CabinetRun.{hasReadingAfter}
-use Rattle.claim.proofs.CeilingLaws.{inflow-under}
+use Rattle.claim.proofs.CeilingLaws.{own-under, above-under}
 use Rattle.claim.proofs.ReadingLaws.{readings-stay, not-observed}
 
 -- the limit after n steps and leads, at element i counted from 0
@@ -68,31 +68,25 @@ module _
   abbrev input : ℕ → Input
   input = inputAt t bytes
 
-  -- a basin's inflow has margin 1
+  -- what an element has of its own has margin 1 or none
   own-margin : (i : ℕ) → stepOwn t input i .«discharge_margin» .0 ≤ 1
-  unfolding stepOwn stepInflow
-  own-margin i = omega arith
-
-  -- no inflow passes C
-  inflow-fits :
-      (i : ℕ)
-      → i < t .elements
-      → inflowOf (t .element i .kind) (stepOwn t input i) (aboveOf t (stepOwn t input) (observedIn input) (figuresOf s) i) .discharge .0
-      ≤ C
-  unfolding stepNumbers
-  inflow-fits = inflow-under t (stepOwn t input) (observedIn input) (figuresOf s) (step .under)
+  unfolding stepOwn ownOf stepInflow released noInflow
+  own-margin i =
+      kind-cases (λ (f : Figures). f .«discharge_margin» .0 ≤ 1) (t .element i .kind) (λ _. omega arith) (λ _. omega arith) (λ _. omega arith)
+      (λ _ _ _. omega arith)
 
   -- the new figures are under the limit
   new-low :
       (i : ℕ)
       → i < t .elements
       → Limited t (hasReadingAfter t bytes hasReading) (suc (stepsOf s)) i (stepFigures t input s i)
-  unfolding stepFigures
+  unfolding stepFigures stepNumbers
   new-low =
       limit-step t (stepOwn t input) (observedIn input) (figuresOf s) hasReading (hasReadingAfter t bytes hasReading) (stepsOf s) b
       (omega (arith, state-bounds t s (step .fits) .steps))
       (λ i l. state-bounds t s (step .fits) .figures i l .discharge)
-      inflow-fits
+      (own-under t (stepOwn t input) (observedIn input) (figuresOf s) (step .under))
+      (above-under t (stepOwn t input) (observedIn input) (figuresOf s) (step .under))
       (λ i l. own-margin i)
       (readings-stay t bytes hasReading (before .outlet))
       (λ i l. not-observed t bytes hasReading i)

@@ -1,10 +1,29 @@
 // Rule 5: the fields of an element.
 ghost use mathlib.Core.Path.{_≡_};
-ghost use Rattle.elements.specs.Rules.{basinFits, reachFits, kindFits, elementFits};
+ghost use Rattle.elements.specs.Rules.{lagFits, basinFits, reachFits, damFits};
+ghost use Rattle.element_rules.specs.Judged.{judgedKind, judged};
 use elements::Element;
 use fields::range::in_range;
 use units::Discharge;
 use units::Variance;
+
+// What rule 5 says of an element: it is refused, or it is of one of the kinds.
+pub enum JudgedElement {
+    Refused,
+    Basin,
+    Reach,
+    Dam,
+}
+
+// The lag of an element that stores water.
+fn lag_fits(step: u64, e: Element) -> bool
+    ensures { λ r. ⌜ r ≡ lagFits step e ⌝ }
+{
+    if e.lag < step {
+        return false;
+    }
+    e.lag <= 60_000
+}
 
 fn basin_fits(e: Element) -> bool
     ensures { λ r. ⌜ r ≡ basinFits e ⌝ }
@@ -26,39 +45,64 @@ fn reach_fits(e: Element) -> bool
     (e.area == 0) & (e.runoff == 0) & (noise.0 == 0)
 }
 
-// The kind byte chooses the ranges of area, runoff and rain noise; every other byte is refused.
-fn kind_fits(e: Element) -> bool
-    ensures { λ r. ⌜ r ≡ kindFits e ⌝ }
+fn dam_fits(e: Element) -> bool
+    ensures { λ r. ⌜ r ≡ damFits e ⌝ }
+{
+    if e.lag != 0 {
+        return false;
+    }
+    reach_fits(e)
+}
+
+// The kind byte chooses the ranges of lag, area, runoff and rain noise; every other byte is refused.
+fn judge_kind(step: u64, e: Element) -> JudgedElement
+    ensures { λ r. ⌜ r ≡ judgedKind step e ⌝ }
 {
     let kind = e.kind;
     match kind {
-        elements::BASIN => basin_fits(e),
-        elements::REACH => reach_fits(e),
-        _ => false,
+        elements::REACH => {
+            if !lag_fits(step, e) {
+                return JudgedElement::Refused;
+            }
+            if !reach_fits(e) {
+                return JudgedElement::Refused;
+            }
+            JudgedElement::Reach
+        }
+        elements::DAM => {
+            if !dam_fits(e) {
+                return JudgedElement::Refused;
+            }
+            JudgedElement::Dam
+        }
+        elements::BASIN => {
+            if !lag_fits(step, e) {
+                return JudgedElement::Refused;
+            }
+            if !basin_fits(e) {
+                return JudgedElement::Refused;
+            }
+            JudgedElement::Basin
+        }
+        _ => JudgedElement::Refused,
     }
 }
 
 // Rule 5 on one element.
-pub fn element_fits(step: u64, e: Element) -> bool
-    ensures { λ r. ⌜ r ≡ elementFits step e ⌝ }
+pub fn judge_element(step: u64, e: Element) -> JudgedElement
+    ensures { λ r. ⌜ r ≡ judged step e ⌝ }
 {
     let q = e.first_discharge;
     let v = e.first_variance;
     let w = e.system_noise;
-    if e.lag < step {
-        return false;
-    }
-    if 60_000 < e.lag {
-        return false;
-    }
     if Discharge::CEILING < q.0 {
-        return false;
+        return JudgedElement::Refused;
     }
     if Variance::CEILING < v.0 {
-        return false;
+        return JudgedElement::Refused;
     }
     if 100_000_000 < w.0 {
-        return false;
+        return JudgedElement::Refused;
     }
-    kind_fits(e)
+    judge_kind(step, e)
 }

@@ -1,28 +1,43 @@
--- Laws of the step of one element: rule 16 on its inflow, its move and its correction, one after the other.
-use Prim.Native.Nat.{ℕ}
-use mathlib.Core.List.{append-assoc, append-nil}
-use mathlib.Core.Logic.{⊎-elim}
-use mathlib.Core.Path.{_≡_, refl, sym, ap, _∙_}
-use Rattle.refusal.specs.Answers.{Answer, refused}
+-- Laws of the step of one element: rule 16 on its inflow, its move and its correction, one after the other; each kind.
+use Prim.Native.Nat.{ℕ, _≤_}
+use mathlib.Core.List.{[], append-assoc, append-nil}
+use mathlib.Core.Path.{_≡_, sym, ap, _∙_}
+use native.Mathlib.Omega.{arith}
+use Rattle.refusal.specs.Answers.{Answer, accepted, refused}
 use Rattle.refusal.specs.declared.Refusal.{Refusal}
+use Rattle.units.specs.Units.{C}
 use Rattle.units.proofs.CeilingLaws.{same-accepted, refused-append, accepted-append}
+use Rattle.units.proofs.UnderLaws.{under-accepted}
 use Rattle.weighting.specs.declared.Estimate.{Estimate}
 use Rattle.method.specs.declared.Figures.{Figures}
 use Rattle.method.specs.declared.FiguresAnswer.{FiguresAnswer}
 use Rattle.method.specs.declared.FiguresAnswer.the-variants.{Accepted, Refused}
-use Rattle.method.specs.Figures.{variance, figuresAnswer}
-use Rattle.method.specs.Inflow.{inflowAnswer}
+use Rattle.method.specs.Figures.{variance, figureNumbers, figuresAnswer, FiguresFit}
+use Rattle.method.specs.Inflow.{noInflow, inflowAnswer}
 use Rattle.method.specs.Routing.{routedDischarge, routingAnswer}
+use Rattle.method.proofs.FiguresLaws.{figures-under}
 use Rattle.routing.specs.Parts.{partsAnswer, routedAnswer}
 use Rattle.routing.proofs.RoutingLaws.{move-answered}
 use Rattle.inflow.specs.Basin.{basinInflow}
 use Rattle.elements.specs.declared.Element.{Element}
-use Rattle.elements.specs.Kinds.{IsKind}
-use Rattle.elements.proofs.KindLaws.{kind-both}
+use Rattle.elements.specs.Kinds.{basin, reach, dam}
+use Rattle.elements.proofs.KindLaws.{by-basin, by-reach, by-dam}
+use Rattle.record.specs.declared.Observation.{Observation}
 use Rattle.record.specs.declared.Observation.the-variants.{Nothing}
 use Rattle.element_step.specs.declared.Intake.{Intake}
-use Rattle.element_step.specs.ElementStep.{inflowOf, correctedBy, moved, observationNumbers, moveNumbers, elementStep, elementNumbers}
-use Rattle.element_step.specs.Answers.{correctedAnswer, movedAnswer, movedByKind, intakeOwn, elementAnswer}
+use Rattle.element_step.specs.ElementStep.{
+  released,
+  ownOf,
+  correctedBy,
+  moved,
+  stored,
+  elementStep,
+  observationNumbers,
+  moveNumbers,
+  storedNumbers,
+  elementNumbers,
+}
+use Rattle.element_step.specs.Answers.{correctedAnswer, movedAnswer, storedAnswer, ownAt, elementAnswer}
 
 -- a move with an inflow that was judged
 module _ (H : ℕ) (e : Element) (inflow old : Figures) {r : FiguresAnswer} (judged : figuresAnswer r ≡ inflowAnswer inflow) where
@@ -45,42 +60,79 @@ module _ (H : ℕ) (e : Element) (inflow old : Figures) {r : FiguresAnswer} (jud
       let s = same-accepted _ inflow _ a in
       move-answered _ _ _ _ d w f ∙ rw (s .0) (sym (accepted-append _ _ _ _ a))
 
--- an element of a kind that rule 5 accepts
-module _ (H : ℕ) (e : Element) (intake : Intake) (old : Figures) (known : IsKind (e .kind)) where
-  abbrev byKindAt : ℕ → Answer Figures
-  byKindAt lead = movedByKind H e (basinInflow (intake .«rain_inflow») lead (e .«rain_noise» .0)) (intake .above) old
+-- a move that was judged, and then the correction
+module _ (H : ℕ) (e : Element) (o : Observation) (inflow old : Figures) where
+  module _ {r : FiguresAnswer} (judged : figuresAnswer r ≡ movedAnswer H e inflow old) where
+    -- the move refuses
+    pub move-passes : {k : Refusal} → r ≡ Refused k → refused 16 ≡ storedAnswer H e o inflow old
+    unfolding storedAnswer storedNumbers moveNumbers movedAnswer
+    move-passes p = rw (← append-assoc) (sym (refused-append _ _ _ _ (sym (ap figuresAnswer p) ∙ judged)))
 
-  move-of-kind :
-      byKindAt (intake .lead) ≡ movedAnswer H e (inflowOf (e .kind) (intakeOwn e intake) (intake .above)) old
-  unfolding movedByKind inflowOf
-  move-of-kind =
-      kind-both (λ (a : Answer Figures) (f : Figures). a ≡ movedAnswer H e f old) (e .kind) (λ _. refl) (λ _. refl)
-      (λ b r. absurd (⊎-elim b r known))
+    -- it does not: the correction decides
+    pub move-accepted :
+        {x : Figures} {after : Answer Figures}
+        → r ≡ Accepted x
+        → after ≡ correctedAnswer o x
+        → after ≡ storedAnswer H e o inflow old
+    unfolding storedAnswer storedNumbers stored moveNumbers movedAnswer correctedAnswer
+    move-accepted p k =
+        let a = sym (ap figuresAnswer p) ∙ judged in
+        let s = same-accepted _ old _ a in
+        k ∙ rw (s .0, ← append-assoc) (sym (accepted-append _ _ _ _ a))
 
-  -- at a lead nothing is observed: the move is all
-  pub lead-moved : intake .observation ≡ Nothing → byKindAt (intake .lead) ≡ elementAnswer H e intake old
-  unfolding elementAnswer elementNumbers elementStep moveNumbers movedAnswer correctedBy observationNumbers
-  lead-moved n = move-of-kind ∙ rw (n, append-nil)
+  -- where nothing is observed the move is all
+  pub move-alone : o ≡ Nothing → movedAnswer H e inflow old ≡ storedAnswer H e o inflow old
+  unfolding storedAnswer storedNumbers stored moveNumbers movedAnswer correctedBy observationNumbers
+  move-alone n = rw (n, append-nil)
 
-  -- a step is lead 0
-  module _ (step : intake .lead ≡ 0) where
-    step-moved : byKindAt 0 ≡ movedAnswer H e (inflowOf (e .kind) (intakeOwn e intake) (intake .above)) old
-    step-moved = ap byKindAt (sym step) ∙ move-of-kind
+-- each kind
+module _ (H : ℕ) (e : Element) (intake : Intake) (old : Figures) where
+  abbrev own : Figures
+  own = ownAt e (intake .own) (intake .lead)
 
-    module _ {r : FiguresAnswer} (answer : figuresAnswer r ≡ byKindAt 0) where
-      -- the move refuses
-      pub move-passes : {k : Refusal} → r ≡ Refused k → refused 16 ≡ elementAnswer H e intake old
-      unfolding elementAnswer elementNumbers moveNumbers movedAnswer
-      move-passes p = rw (← append-assoc) (sym (refused-append _ _ _ _ (sym (ap figuresAnswer p) ∙ (answer ∙ step-moved))))
+  abbrev o : Observation
+  o = intake .observation
 
-      -- it does not: the correction decides
-      pub move-accepted :
-          {x : Figures} {after : Answer Figures}
-          → r ≡ Accepted x
-          → after ≡ correctedAnswer (intake .observation) x
-          → after ≡ elementAnswer H e intake old
-      unfolding elementAnswer elementNumbers elementStep moveNumbers movedAnswer correctedAnswer
-      move-accepted p k =
-          let a = sym (ap figuresAnswer p) ∙ (answer ∙ step-moved) in
-          let s = same-accepted _ old _ a in
-          k ∙ rw (s .0, ← append-assoc) (sym (accepted-append _ _ _ _ a))
+  pub basin-answered :
+      e .kind ≡ basin
+      → {lead : ℕ}
+      → lead ≡ intake .lead
+      → storedAnswer H e o (basinInflow (intake .own) lead (e .«rain_noise» .0)) old ≡ elementAnswer H e intake old
+  unfolding elementAnswer storedAnswer elementNumbers elementStep ownAt ownOf
+  basin-answered k l =
+      rw (
+        l,
+        by-basin (e .kind) (storedNumbers H e o own old) (storedNumbers H e o (intake .above) old) (figureNumbers own) [] k,
+        by-basin (e .kind) (stored H e o own old) (stored H e o (intake .above) old) own noInflow k,
+        by-basin (e .kind) (basinInflow (intake .own) (intake .lead) (e .«rain_noise» .0)) noInflow (released e (intake .own)) noInflow k,
+      )
+
+  pub reach-answered : e .kind ≡ reach → storedAnswer H e o (intake .above) old ≡ elementAnswer H e intake old
+  unfolding elementAnswer storedAnswer elementNumbers elementStep ownAt ownOf
+  reach-answered k =
+      rw (
+        by-reach (e .kind) (storedNumbers H e o own old) (storedNumbers H e o (intake .above) old) (figureNumbers own) [] k,
+        by-reach (e .kind) (stored H e o own old) (stored H e o (intake .above) old) own noInflow k,
+      )
+
+  -- a dam's figures are in their ranges
+  released-fit : intake .own ≤ C → e .«system_noise» .0 ≤ C → FiguresFit (released e (intake .own))
+  unfolding released
+  released-fit q w = record { discharge = q; dischargeMargin = omega arith; variance = w; varianceMargin = omega arith }
+
+  pub dam-answered :
+      e .kind ≡ dam
+      → intake .own ≤ C
+      → e .«system_noise» .0 ≤ C
+      → (accepted (released e (intake .own)) ≡ elementAnswer H e intake old) × FiguresFit (released e (intake .own))
+  unfolding elementAnswer elementNumbers elementStep ownAt ownOf
+  dam-answered k q w =
+      let fit = released-fit q w in (
+        rw (
+          by-dam (e .kind) (storedNumbers H e o own old) (storedNumbers H e o (intake .above) old) (figureNumbers own) [] k,
+          by-dam (e .kind) (stored H e o own old) (stored H e o (intake .above) old) own noInflow k,
+          by-dam (e .kind) (basinInflow (intake .own) (intake .lead) (e .«rain_noise» .0)) noInflow (released e (intake .own)) noInflow k,
+        )
+            (under-accepted _ _ (figures-under _ fit)),
+        fit,
+      )

@@ -1,10 +1,11 @@
 -- Serves the code: what the functions of one element may rely on.
 use Prim.Native.Nat.{ℕ, _≤_}
+use mathlib.Core.Path.{_≡_}
 use Rattle.units.specs.Units.{C, S}
 use Rattle.method.specs.declared.Figures.{Figures}
 use Rattle.method.specs.Figures.{FiguresFit}
 use Rattle.elements.specs.declared.Element.{Element}
-use Rattle.elements.specs.Kinds.{IsKind}
+use Rattle.elements.specs.Kinds.{dam, IsKind}
 use Rattle.record.specs.Decoded.{ObservationFits}
 use Rattle.element_step.specs.declared.Intake.{Intake}
 
@@ -24,4 +25,5 @@ pub record MoveInRange (e : Element) (H : ℕ) (before : Figures) : Type 0 where
 pub record StepInRange (e : Element) (H : ℕ) (intake : Intake) (before : Figures) : Type 0 where
   pub move : MoveInRange e H before
   pub lead : intake .lead ≤ 12
+  pub release : e .kind ≡ dam → intake .own ≤ C
   pub observation : ObservationFits (intake .observation)

@@ -1,14 +1,17 @@
 // One element at a step or a lead: its inflow by its kind, its move, its correction by a reading; a basin's rains after a step. A step and
 // a lead have functions of their own, and each is called once, so that the compiler puts them into their callers.
+ghost use mathlib.Core.Logic.{_≢_};
 ghost use mathlib.Core.Path.{_≡_};
 ghost use Prim.Native.Nat.{_≤_};
 ghost use Rattle.method.specs.Figures.{figuresAnswer, FiguresFit, AnsweredFiguresFit};
 ghost use Rattle.inflow.specs.Basin.{basinInflow};
+ghost use Rattle.elements.specs.Kinds.{dam};
 ghost use Rattle.record.specs.declared.Observation.the-variants.{Nothing};
 ghost use Rattle.record.specs.Decoded.{ObservationFits};
 ghost use Rattle.element_step.specs.Rains.{shiftedRains};
 ghost use Rattle.element_step.specs.Bounds.{MoveInRange, StepInRange};
-ghost use Rattle.element_step.specs.Answers.{correctedAnswer, movedAnswer, movedByKind, elementAnswer};
+ghost use Rattle.element_step.specs.ElementStep.{released};
+ghost use Rattle.element_step.specs.Answers.{correctedAnswer, movedAnswer, elementAnswer};
 use correction::correct;
 use elements::Element;
 use inflow::basin_inflow;
@@ -21,17 +24,30 @@ use routing::route_discharge;
 use routing::route_variance;
 use routing::routed_figures;
 use state::Rains;
+use units::Discharge;
+use units::Variance;
 
-// What an element takes in: the inflow that its rain brings, the number of the lead (0 at a step), what drains in, and what its gauge
-// observed.
+// What an element takes in: its own number (a basin's inflow from rain, a dam's release, 0 for a reach), the number of the lead (0 at a
+// step), what drains in, and what its gauge observed.
 pub struct Intake {
-    pub rain_inflow: u64,
+    pub own: u64,
     pub lead: u64,
     pub above: Figures,
     pub observation: Observation,
 }
 
-// The move of a basin at a step: what rain brings, judged, and the move with it.
+// A reading corrects the element's figures; nothing observed leaves them.
+fn correct_by(observation: Observation, x: Figures) -> FiguresAnswer
+    requires { ⌜ ObservationFits observation × FiguresFit x ⌝ }
+    ensures { λ r. ⌜ (figuresAnswer r ≡ correctedAnswer observation x) × AnsweredFiguresFit r ⌝ }
+{
+    match observation {
+        Observation::Nothing => FiguresAnswer::Accepted(x),
+        Observation::Rated(z, noise) => correct(noise, z, x),
+    }
+}
+
+// A basin at a step: what rain brings, judged, and the move with it.
 fn step_basin(e: Element, weight: u64, rain_inflow: u64, old: Figures) -> FiguresAnswer
     requires { ⌜ MoveInRange e weight old ⌝ }
     ensures { λ r. ⌜ (figuresAnswer r ≡ movedAnswer weight e (basinInflow «rain_inflow» 0 (e .«rain_noise» .0)) old) × AnsweredFiguresFit r ⌝ }
@@ -47,7 +63,7 @@ fn step_basin(e: Element, weight: u64, rain_inflow: u64, old: Figures) -> Figure
     )
 }
 
-// The move of a reach at a step: what drains in, judged, and the move with it.
+// A reach at a step: what drains in, judged, and the move with it.
 fn step_reach(e: Element, weight: u64, above: Figures, old: Figures) -> FiguresAnswer
     requires { ⌜ MoveInRange e weight old ⌝ }
     ensures { λ r. ⌜ (figuresAnswer r ≡ movedAnswer weight e above old) × AnsweredFiguresFit r ⌝ }
@@ -62,50 +78,45 @@ fn step_reach(e: Element, weight: u64, above: Figures, old: Figures) -> FiguresA
     )
 }
 
-// The move of an element at a step: the kind byte chooses between what rain brings and what drains in; all other bytes are refused.
-fn move_by_kind(
-    e: Element,
-    weight: u64,
-    rain_inflow: u64,
-    above: Figures,
-    old: Figures,
-) -> FiguresAnswer
-    requires { ⌜ MoveInRange e weight old ⌝ }
-    ensures { λ r. ⌜ (figuresAnswer r ≡ movedByKind weight e (basinInflow «rain_inflow» 0 (e .«rain_noise» .0)) above old) × AnsweredFiguresFit r ⌝ }
+// A dam at a step or a lead: it lets out its release, whatever drains in and whatever it had before.
+pub fn dam_figures(e: Element, release: u64) -> Figures
+    ensures { λ r. ⌜ r ≡ released e release ⌝ }
 {
-    let kind = e.kind;
-    match kind {
-        elements::BASIN => step_basin(e, weight, rain_inflow, old),
-        elements::REACH => step_reach(e, weight, above, old),
-        _ => FiguresAnswer::Refused(Refusal::ElementField),
+    let noise = e.system_noise;
+    Figures {
+        discharge: Discharge(release),
+        discharge_margin: Discharge(0),
+        variance: noise,
+        variance_margin: Variance(0),
     }
 }
 
-// A reading corrects the element's figures; nothing observed leaves them.
-fn correct_by(observation: Observation, x: Figures) -> FiguresAnswer
-    requires { ⌜ ObservationFits observation × FiguresFit x ⌝ }
-    ensures { λ r. ⌜ (figuresAnswer r ≡ correctedAnswer observation x) × AnsweredFiguresFit r ⌝ }
-{
-    match observation {
-        Observation::Nothing => FiguresAnswer::Accepted(x),
-        Observation::Rated(z, noise) => correct(noise, z, x),
-    }
-}
-
-// One element at a step: its inflow, its move and its correction.
+// One element at a step, by its kind: a basin and a reach move and are corrected, a dam lets out its release; all other bytes are refused.
 pub fn step_element(e: Element, weight: u64, intake: Intake, old: Figures) -> FiguresAnswer
     requires { ⌜ StepInRange e weight intake old × (intake .lead ≡ 0) ⌝ }
     ensures { λ r. ⌜ (figuresAnswer r ≡ elementAnswer weight e intake old) × AnsweredFiguresFit r ⌝ }
 {
+    let kind = e.kind;
     let observation = intake.observation;
-    let FiguresAnswer::Accepted(x) = move_by_kind(e, weight, intake.rain_inflow, intake.above, old)
-    else {
-        return FiguresAnswer::Refused(Refusal::AboveCeiling);
-    };
-    correct_by(observation, x)
+    match kind {
+        elements::BASIN => {
+            let FiguresAnswer::Accepted(x) = step_basin(e, weight, intake.own, old) else {
+                return FiguresAnswer::Refused(Refusal::AboveCeiling);
+            };
+            correct_by(observation, x)
+        }
+        elements::REACH => {
+            let FiguresAnswer::Accepted(x) = step_reach(e, weight, intake.above, old) else {
+                return FiguresAnswer::Refused(Refusal::AboveCeiling);
+            };
+            correct_by(observation, x)
+        }
+        elements::DAM => FiguresAnswer::Accepted(dam_figures(e, intake.own)),
+        _ => FiguresAnswer::Refused(Refusal::ElementField),
+    }
 }
 
-// The move of a basin at a lead.
+// A basin at a lead.
 fn lead_basin(e: Element, weight: u64, rain_inflow: u64, lead: u64, old: Figures) -> FiguresAnswer
     requires { ⌜ (lead ≤ 12) × MoveInRange e weight old ⌝ }
     ensures { λ r. ⌜ (figuresAnswer r ≡ movedAnswer weight e (basinInflow «rain_inflow» lead (e .«rain_noise» .0)) old) × AnsweredFiguresFit r ⌝ }
@@ -121,7 +132,7 @@ fn lead_basin(e: Element, weight: u64, rain_inflow: u64, lead: u64, old: Figures
     )
 }
 
-// The move of a reach at a lead.
+// A reach at a lead.
 fn lead_reach(e: Element, weight: u64, above: Figures, old: Figures) -> FiguresAnswer
     requires { ⌜ MoveInRange e weight old ⌝ }
     ensures { λ r. ⌜ (figuresAnswer r ≡ movedAnswer weight e above old) × AnsweredFiguresFit r ⌝ }
@@ -136,15 +147,16 @@ fn lead_reach(e: Element, weight: u64, above: Figures, old: Figures) -> FiguresA
     )
 }
 
-// One element at a lead, where nothing is observed: its inflow and its move.
+// One element that stores water at a lead, where nothing is observed, by its kind; a dam's leads are worked out apart (`lead_walk`).
 pub fn lead_element(e: Element, weight: u64, intake: Intake, old: Figures) -> FiguresAnswer
-    requires { ⌜ StepInRange e weight intake old × (intake .observation ≡ Nothing) ⌝ }
+    requires { ⌜ StepInRange e weight intake old × ((intake .observation ≡ Nothing) × (e .kind ≢ dam)) ⌝ }
     ensures { λ r. ⌜ (figuresAnswer r ≡ elementAnswer weight e intake old) × AnsweredFiguresFit r ⌝ }
 {
     let kind = e.kind;
     match kind {
-        elements::BASIN => lead_basin(e, weight, intake.rain_inflow, intake.lead, old),
+        elements::BASIN => lead_basin(e, weight, intake.own, intake.lead, old),
         elements::REACH => lead_reach(e, weight, intake.above, old),
+        elements::DAM => FiguresAnswer::Refused(Refusal::ElementField),
         _ => FiguresAnswer::Refused(Refusal::ElementField),
     }
 }

@@ -5,9 +5,7 @@ use mathlib.Core.Path.{_≡_}
 use lib.ListN.{length, getD}
 use Rattle.table.specs.declared.Counts.{Counts}
 use Rattle.table.specs.Tables.{TableValues}
-use Rattle.table.specs.Basins.{basinCount}
-use Rattle.table.specs.Bounds.{AcceptedTable}
-use Rattle.table.specs.Decoded.{CountsHeld}
+use Rattle.table.specs.Bounds.{AcceptedTable, Counted}
 use Rattle.table.specs.InUse.{tableIn}
 use Rattle.network.specs.Step.{weightOf}
 
@@ -22,15 +20,16 @@ pub record WeightsHeld (t : TableValues) (weight : List ℕ) : Type 0 where
   pub at : (i : ℕ) → i < t .elements → i < length weight → getD weight i 0 ≡ weightOf t i
 
 -- an element in use
-pub record WeightReady (bytes : List ℕ) (T : ℕ) (weight : List ℕ) (i : ℕ) : Type 0 where
+pub record ElementKnown (bytes : List ℕ) (T i : ℕ) : Type 0 where
   pub table : AcceptedTable bytes
   pub step : T ≡ tableIn bytes .step
-  pub weights : WeightsHeld (tableIn bytes) weight
   pub used : i < tableIn bytes .elements
+
+pub record WeightReady (bytes : List ℕ) (T : ℕ) (weight : List ℕ) (i : ℕ) : Type 0 where
+  pub element : ElementKnown bytes T i
+  pub weights : WeightsHeld (tableIn bytes) weight
 
 -- the counts of an accepted table, and weights of its elements
 pub record Weighed (bytes : List ℕ) (counts : Counts) (weight : List ℕ) : Type 0 where
-  pub table : AcceptedTable bytes
-  pub held : CountsHeld counts (tableIn bytes)
-  pub basins : counts .basins ≡ basinCount (tableIn bytes)
+  pub counted : Counted bytes counts
   pub weights : WeightsHeld (tableIn bytes) weight

@@ -5,9 +5,21 @@ ghost use lib.ListN.{length};
 ghost use Rattle.units.specs.Units.{S};
 ghost use Rattle.table.specs.InUse.{tableIn};
 ghost use Rattle.network.specs.Step.{weightOf};
-ghost use Rattle.element_weights.specs.Weights.{Weighable, WeightsHeld, WeightReady};
+ghost use Rattle.element_weights.specs.Weights.{Weighable, ElementKnown, WeightsHeld, WeightReady};
 use elements::lag_at;
 use weighting::weight::series_weight;
+
+// The weight of element i, worked out: a dam, whose lag is 0, has none.
+fn work_weight(table: &[u8], step: u64, i: usize) -> u64
+    requires { ⌜ ElementKnown (now table) step i ⌝ }
+    ensures { λ r. ⌜ (r ≡ weightOf (tableIn (now (table .entry))) i) × (r ≤ S) ⌝ }
+{
+    let lag = lag_at(table, i);
+    if lag == 0 {
+        return 0;
+    }
+    series_weight(step, lag)
+}
 
 // The weights of the n elements of an accepted table with this step, put into lent numbers.
 pub fn put_weights(table: &[u8], step: u64, n: usize, weights: &mut [u64])
@@ -15,7 +27,7 @@ pub fn put_weights(table: &[u8], step: u64, n: usize, weights: &mut [u64])
     ensures { λ _. ⌜ WeightsHeld (tableIn (now (table .entry))) (now (weights .exit)) ⌝ }
 {
     for i in 0..n {
-        weights[i] = series_weight(step, lag_at(table, i));
+        weights[i] = work_weight(table, step, i);
     }
 }
 
@@ -27,5 +39,5 @@ pub fn weight_of(table: &[u8], step: u64, weights: &[u64], i: usize) -> u64
     if i < weights.len() {
         return weights[i];
     }
-    series_weight(step, lag_at(table, i))
+    work_weight(table, step, i)
 }

@@ -1,18 +1,18 @@
 -- What callers may rely on once rules 5 and 6 accept an element.
 use Prim.Native.Nat.{ℕ, _+_, _≤_, _<_}
-use mathlib.Core.Logic.{_⊎_}
+use mathlib.Core.Logic.{_⊎_, _≢_}
 use mathlib.Core.Path.{_≡_}
 use Rattle.units.specs.Units.{C}
 use Rattle.elements.specs.declared.Element.{Element}
-use Rattle.elements.specs.Kinds.{IsKind}
+use Rattle.elements.specs.Kinds.{dam, IsKind}
 
 -- of element i, counted from 0, at the step T among n elements
 pub record ElementBounds (T n i : ℕ) (e : Element) : Type 0 where
   pub kind : IsKind (e .kind)
   pub down : e .down ≤ n
   pub later : (e .down ≡ 0) ⊎ (i + 1 < e .down)
-  pub lagLeast : T ≤ e .lag
-  pub lagMost : e .lag ≤ 60000
+  pub lag : e .kind ≢ dam → (T ≤ e .lag) × (e .lag ≤ 60000)
+  pub noLag : e .kind ≡ dam → e .lag ≡ 0
   pub area : e .area ≤ 400000
   pub runoff : e .runoff ≤ 1000
   pub firstDischarge : e .«first_discharge» .0 ≤ C

@@ -1,4 +1,5 @@
--- Document 01, The table: "kind (1; 1 basin, 2 reach)". What a kind decides is said by `byKind`, which names every kind.
+-- Document 01, The table: "kind (1; 1 basin, 2 reach)"; document 02, M-100: "Add kind 3, a dam". What a kind decides is said by `byKind`,
+-- which names every kind.
 use Prim.Native.Nat.{ℕ}
 use mathlib.Core.Bool.{cond}
 use mathlib.Core.Logic.{_⊎_}
@@ -11,14 +12,21 @@ basin = 1
 abbrev pub reach : ℕ
 reach = 2
 
--- one thing for a basin, one for a reach, and one for a byte that is no kind
-unfoldable pub byKind : {A : Type 0} → ℕ → A → A → A → A
-byKind kind ofBasin ofReach ofNone = cond (eqb kind basin) ofBasin (cond (eqb kind reach) ofReach ofNone)
+abbrev pub dam : ℕ
+dam = 3
 
--- how many basins an element of this kind is
+-- one thing for a basin, one for a reach, one for a dam, and one for a byte that is no kind
+unfoldable pub byKind : {A : Type 0} → ℕ → A → A → A → A → A
+byKind kind ofBasin ofReach ofDam ofNone =
+    cond (eqb kind basin) ofBasin (cond (eqb kind reach) ofReach (cond (eqb kind dam) ofDam ofNone))
+
+-- how many basins, and how many dams, an element of this kind is
 unfoldable pub basinOf : ℕ → ℕ
-basinOf kind = byKind kind 1 0 0
+basinOf kind = byKind kind 1 0 0 0
+
+unfoldable pub damOf : ℕ → ℕ
+damOf kind = byKind kind 0 0 1 0
 
 -- a byte that rule 5 accepts as a kind
 abbrev pub IsKind : ℕ → Type 0
-IsKind kind = (kind ≡ basin) ⊎ (kind ≡ reach)
+IsKind kind = (kind ≡ basin) ⊎ ((kind ≡ reach) ⊎ (kind ≡ dam))

@@ -1,4 +1,4 @@
--- Document 01, Numbers for no, 5 and 6, with the ranges of The table.
+-- Document 01, Numbers for no, 5 and 6, with the ranges of The table, and document 02, M-100.
 use Prim.Native.Nat.{ℕ, _+_, _-_}
 use mathlib.Core.Bool.{Bool, false, not, _&&_, _||_}
 use lib.Dec.{ltb, leb, eqb}
@@ -8,6 +8,10 @@ use Rattle.elements.specs.declared.Element.{Element}
 use Rattle.elements.specs.Kinds.{basin, byKind}
 
 -- 5: "An element's kind or any field but down is out of range."
+-- "Lag from T to 60,000."
+unfoldable pub lagFits : ℕ → Element → Bool
+lagFits T e = inRange (e .lag) T 60000
+
 -- "Basin: area 1 to 400,000, f 0 to 1,000, G 0 to 100,000,000."
 unfoldable pub basinFits : Element → Bool
 basinFits e = (inRange (e .area) 1 400000 && inRange (e .runoff) 0 1000) && inRange (e .«rain_noise» .0) 0 100000000
@@ -16,14 +20,18 @@ basinFits e = (inRange (e .area) 1 400000 && inRange (e .runoff) 0 1000) && inRa
 unfoldable pub reachFits : Element → Bool
 reachFits e = (eqb (e .area) 0 && eqb (e .runoff) 0) && eqb (e .«rain_noise» .0) 0
 
--- "kind (1; 1 basin, 2 reach)": another byte is refused
-unfoldable pub kindFits : Element → Bool
-kindFits e = byKind (e .kind) (basinFits e) (reachFits e) false
+-- M-100: "a dam: its lag, area, f and rain noise are zero"
+unfoldable pub damFits : Element → Bool
+damFits e = eqb (e .lag) 0 && reachFits e
 
--- "Lag from T to 60,000." "W 0 to 100,000,000." "First values 0 to C."
+-- "kind (1; 1 basin, 2 reach)", M-100: "rule 5 admits the dam"; another byte is refused
+unfoldable pub kindFits : ℕ → Element → Bool
+kindFits T e = byKind (e .kind) (lagFits T e && basinFits e) (lagFits T e && reachFits e) (damFits e) false
+
+-- "W 0 to 100,000,000." "First values 0 to C."
 unfoldable pub elementFits : ℕ → Element → Bool
 elementFits T e =
-    (((kindFits e && inRange (e .lag) T 60000) && inRange (e .«first_discharge» .0) 0 C) && inRange (e .«first_variance» .0) 0 C)
+    ((kindFits T e && inRange (e .«first_discharge» .0) 0 C) && inRange (e .«first_variance» .0) 0 C)
     && inRange (e .«system_noise» .0) 0 100000000
 
 -- 6: "A down is neither 0 nor a later element, or it names a basin.", of element i of n, counted from 0

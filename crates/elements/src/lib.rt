@@ -16,6 +16,8 @@ pub const BASIN: u64 = 1;
 
 pub const REACH: u64 = 2;
 
+pub const DAM: u64 = 3;
+
 // An element of the table, of one of these kinds.
 pub struct Element {
     pub kind: u64,
@@ -79,6 +81,7 @@ pub fn basin_of(kind: u64) -> usize
     match kind {
         BASIN => 1,
         REACH => 0,
+        DAM => 0,
         _ => 0,
     }
 }

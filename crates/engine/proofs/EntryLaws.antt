@@ -28,11 +28,11 @@ use Rattle.network.specs.Lent.{countWritten, lentAfter, Lent}
 use Rattle.element_weights.specs.Weights.{Weighed}
 use Rattle.element_weights.proofs.WeightsLaws.{none-held}
 use Rattle.entries.specs.Entries.{startAnswer, stepOnAnswer, forecastOnAnswer, forecastAnswer}
-use Rattle.engine.specs.Held.{Counted}
+use Rattle.table.specs.Bounds.{Counted}
 
 -- a call that keeps no weights
 pub unweighed : {bytes : List ℕ} {counts : Counts} → Counted bytes counts → Weighed bytes counts []
-unweighed h = record { table = h .table; held = h .held; basins = h .basins; weights = none-held _ }
+unweighed h = record { counted = h; weights = none-held _ }
 
 -- ---- the start
 

@@ -3,16 +3,15 @@ use Prim.Native.Nat.{ℕ, zero, suc, _+_, _≤_, _<_}
 use mathlib.Core.Bool.{true}
 use mathlib.Core.List.{List, [], _∷_}
 use mathlib.Core.Path.{_≡_}
-use borrow.Author.Tests.{le-ltb}
 use native.Mathlib.Omega.{arith}
 use lib.ListN.{getD}
 use Rattle.refusal.specs.Answers.{accepted}
 use Rattle.refusal.proofs.RuleLaws.{rule-kept}
 use Rattle.units.specs.Units.{C}
-use Rattle.units.specs.Ceiling.{somePasses}
-use Rattle.units.proofs.UnderLaws.{Under, none-under, both-under}
+use Rattle.units.proofs.UnderLaws.{Under, none-under, first-under, both-under}
 use Rattle.method.specs.declared.Figures.{Figures}
 use Rattle.method.specs.Figures.{FiguresFit}
+use Rattle.method.proofs.FiguresLaws.{figures-under}
 use Rattle.table.specs.Tables.{TableValues}
 use Rattle.state.specs.States.{State}
 use Rattle.state.specs.Rules.{stateFits}
@@ -24,7 +23,7 @@ use Rattle.network.specs.Lent.{layout}
 use Rattle.network.proofs.NumbersLaws.{leadOwn, lead-part}
 use Rattle.network.proofs.LayoutLaws.{layout-append}
 use Rattle.entries.specs.Entries.{forecastOnAnswer}
-use Rattle.entries.proofs.NextLaws.{first-under, new-fit, under-kept}
+use Rattle.entries.proofs.NextLaws.{new-fit, under-kept}
 
 -- what the rules give of an accepted forecast
 pub record Forecasting (t : TableValues) (s : State) : Type 0 where
@@ -65,11 +64,6 @@ under-at : (ns : List ℕ) → Under ns → (k : ℕ) → getD ns k 0 ≤ C
 under-at [] u k = omega arith
 under-at (n ∷ ns) u zero = first-under n ns u .0
 under-at (n ∷ ns) u (suc k) = under-at ns (first-under n ns u .1) k
-
-figures-under : (f : Figures) → FiguresFit f → Under (layout (f ∷ []))
-unfolding layout somePasses
-figures-under f h =
-    rw (le-ltb _ _ (h .discharge), le-ltb _ _ (h .dischargeMargin), le-ltb _ _ (h .variance), le-ltb _ _ (h .varianceMargin))
 
 listed-under : (f : ℕ → Figures) (n : ℕ) → ((k : ℕ) → k < n → FiguresFit (f k)) → Under (layout (listed f n))
 unfolding listed layout

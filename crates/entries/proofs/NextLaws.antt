@@ -1,32 +1,31 @@
 -- A state that a start or an accepted step left is one that rule 8 accepts.
 use Prim.{Unit}
 use Prim.Native.Nat.{ℕ, _+_, _≤_, _<_}
-use mathlib.Core.Bool.{Bool, true, false, cond, _||_}
-use mathlib.Core.List.{List, [], _∷_}
+use mathlib.Core.Bool.{Bool, true, false, cond}
+use mathlib.Core.List.{List, []}
 use mathlib.Core.Logic.{⊎-elim}
 use mathlib.Core.Path.{_≡_, refl, sym, subst, _∙_}
-use borrow.Author.Tests.{le-leb, ltb-false, eq-eqb}
+use borrow.Author.Tests.{le-leb, eq-eqb}
 use native.Mathlib.Nat.{eq-or-lt-of-le}
 use native.Mathlib.Omega.{arith}
-use lib.Dec.{ltb}
 use lib.ListN.{length}
 use Rattle.sizes.specs.Sizes.{stateNumbers}
 use Rattle.refusal.specs.Answers.{Answer, accepted, refused}
 use Rattle.refusal.proofs.RuleLaws.{not-both, rule-kept}
 use Rattle.refusal.specs.declared.Verdict.{Verdict}
 use Rattle.refusal.specs.declared.Verdict.the-variants.{Accepted}
-use Rattle.units.specs.Units.{C}
 use Rattle.units.specs.Ceiling.{somePasses, underCeiling}
-use Rattle.units.proofs.UnderLaws.{Under, parts-under}
+use Rattle.units.proofs.UnderLaws.{Under, first-under, parts-under}
 use Rattle.method.specs.declared.Figures.{Figures}
 use Rattle.method.specs.Figures.{FiguresFit}
-use Rattle.method.specs.Inflow.{inflowNumbers}
+use Rattle.method.specs.Inflow.{noInflow, inflowNumbers}
+use Rattle.method.proofs.FiguresLaws.{under-figures}
 use Rattle.method.specs.Routing.{routed, varianceNumbers, routingNumbers}
 use Rattle.method.specs.Correction.{corrected, correctionNumbers}
 use Rattle.fields.proofs.RangeLaws.{all-below}
 use Rattle.elements.specs.declared.Element.{Element}
 use Rattle.elements.specs.Kinds.{basin, IsKind}
-use Rattle.elements.proofs.KindLaws.{kind-cases}
+use Rattle.elements.proofs.KindLaws.{kind-cases, kind-both, no-other}
 use Rattle.table.specs.Tables.{TableValues}
 use Rattle.table.specs.Bounds.{TableBounds}
 use Rattle.record.specs.declared.Observation.{Observation}
@@ -44,7 +43,16 @@ use Rattle.state.proofs.StateLaws.{started-elements, started-steps, started-fig
 use Rattle.state.proofs.BoundsLaws.{state-bounds}
 use Rattle.state.proofs.AnswerLaws.{answered-next}
 use Rattle.walk.specs.Walk.{newCell}
-use Rattle.element_step.specs.ElementStep.{inflowOf, correctedBy, moved, elementStep, observationNumbers, moveNumbers, elementNumbers}
+use Rattle.element_step.specs.ElementStep.{
+  correctedBy,
+  moved,
+  stored,
+  elementStep,
+  observationNumbers,
+  moveNumbers,
+  storedNumbers,
+  elementNumbers,
+}
 use Rattle.element_step.specs.Rains.{shiftedRains}
 use Rattle.network.specs.Step.{networkCell, aboveOf, newFigures, networkNumbers, stepOwn, observedIn, stepFigures, stepped, stepNumbers}
 use Rattle.network.proofs.NumbersLaws.{element-part}
@@ -52,15 +60,6 @@ use Rattle.network.proofs.StepLaws.{stepped-length, stepped-elements, stepped-s
 use Rattle.entries.specs.Entries.{stepOnAnswer}
 
 -- ---- the figures
-
--- the first number of a list under the ceiling
-pub first-under : (n : ℕ) (ns : List ℕ) → Under (n ∷ ns) → (n ≤ C) × Under ns
-unfolding somePasses
-first-under n ns u = go (ltb C n) refl u
-  where
-    go : (b : Bool) → ltb C n ≡ b → (b || somePasses ns) ≡ false → (n ≤ C) × Under ns
-    go true e h = let z : _≡_ {A = ℕ} 0 1 = cc in absurd (omega arith)
-    go false e h = (ltb-false C n e, h)
 
 routed-fit : (H W : ℕ) (inflow old : Figures) → Under (routingNumbers H W inflow old) → FiguresFit (routed H W inflow old)
 unfolding routingNumbers varianceNumbers routed
@@ -93,16 +92,35 @@ moved-fit H e (Rated z noise) inflow old u =
     corrected-fit (noise .0) (z .0) (routed H (e .«system_noise» .0) inflow old)
     (parts-under (routingNumbers H (e .«system_noise» .0) inflow old) (correctionNumbers (noise .0) (z .0) (routed H (e .«system_noise» .0) inflow old)) u .1)
 
+-- an element that stores water, and any
+stored-fit :
+    (H : ℕ) (e : Element) (o : Observation) (inflow old : Figures)
+    → Under (storedNumbers H e o inflow old)
+    → FiguresFit (stored H e o inflow old)
+unfolding storedNumbers stored
+stored-fit H e o inflow old u = moved-fit H e o inflow old (parts-under (inflowNumbers inflow) _ u .1)
+
+nothing-fits : FiguresFit noInflow
+unfolding noInflow
+nothing-fits = record { discharge = omega arith; dischargeMargin = omega arith; variance = omega arith; varianceMargin = omega arith }
+
+element-fit :
+    (H : ℕ) (e : Element) (own : Figures) (o : Observation) (above old : Figures)
+    → Under (elementNumbers H e own o above old)
+    → FiguresFit (elementStep H e own o above old)
+unfolding elementNumbers elementStep
+element-fit H e own o above old =
+    kind-both (λ (ns : List ℕ) (f : Figures). Under ns → FiguresFit f) (e .kind) (λ _. stored-fit H e o own old)
+    (λ _. stored-fit H e o above old) (λ _. under-figures own) (λ _ _ _ _. nothing-fits)
+
 -- the new figures of an element, where the numbers of the first m pass rule 16
 pub new-fit :
     (t : TableValues) (own : ℕ → Figures) (o : ℕ → Observation) (old : ℕ → Figures) (m i : ℕ)
     → i < m
     → Under (networkNumbers t own o old m)
     → FiguresFit (newFigures t own o old i)
-unfolding newFigures newCell networkCell elementStep elementNumbers aboveOf
-new-fit t own o old m i l u =
-    moved-fit _ _ _ _ _
-    (parts-under (inflowNumbers (inflowOf (t .element i .kind) (own i) (aboveOf t own o old i))) _ (element-part t own o old i m l u) .1)
+unfolding newFigures newCell networkCell aboveOf
+new-fit t own o old m i l u = element-fit _ _ _ _ _ _ (element-part t own o old i m l u)
 
 -- ---- what rule 8 asks
 
@@ -124,7 +142,7 @@ place-fits :
 unfolding placeFits
 place-fits kind p is f r =
     kind-cases (λ (fit : Bool). fit ≡ true) kind (λ k. rw (figures-fit _ f, rains-fit _ (r k))) (λ _. figures-fit _ f)
-    (λ a b. absurd (⊎-elim a b is))
+    (λ _. figures-fit _ f) (λ a b c. absurd (no-other is a b c))
 
 -- a state within the bounds of rule 8 is accepted by it
 pub bounds-fit : (t : TableValues) (s : State) → TableBounds t → StateBounds t s → stateFits t s ≡ true

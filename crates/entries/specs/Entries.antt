@@ -1,4 +1,5 @@
--- Document 01, Numbers for no: "Starting uses 1 to 7; a step 1 to 14 and 16; a forecast 1 to 8, 15 and 16."
+-- Document 01, Numbers for no: "Starting uses 1 to 7; a step 1 to 14 and 16; a forecast 1 to 8, 15 and 16."; document 02, M-100: a step 17
+-- too, "between 12 and 13".
 use Prim.Native.Nat.{ℕ}
 use mathlib.Core.List.{List}
 use Rattle.refusal.specs.Answers.{Answer, accepted, rule}

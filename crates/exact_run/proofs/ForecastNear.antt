@@ -1,32 +1,44 @@
 -- Every lead of a forecast stays within its margins of the lead in fractions.
 use Prim.Native.Nat.{ℕ, zero, suc, _<_}
-use mathlib.Core.Path.{_≡_}
-use Rattle.exact.specs.Margins.{Follows}
-use Rattle.exact.proofs.Theorems.{forecast-inflow-near}
-use Rattle.elements.specs.Kinds.{basin}
+use mathlib.Core.Path.{_≡_, subst}
+use Rattle.weighting.specs.Estimates.{estimate}
+use Rattle.exact.specs.Margins.{Tracks, Follows}
+use Rattle.exact.proofs.Theorems.{first-near, forecast-inflow-near, no-inflow-near}
+use Rattle.elements.specs.Kinds.{basin, dam}
+use Rattle.elements.proofs.KindLaws.{kind-both}
 use Rattle.table.specs.Tables.{TableValues}
 use Rattle.table.specs.Bounds.{TableBounds}
 use Rattle.state.specs.States.{State, stepsOf, figuresOf, rainsOf}
+use Rattle.element_step.specs.ElementStep.{released, ownOf}
 use Rattle.network.specs.Step.{noObservation}
-use Rattle.network.specs.Forecast.{forecastOwn, leadFigures}
-use Rattle.exact_run.specs.ExactForecast.{ExactState, exactForecastOwn, exactNoObservation, exactLeadFigures}
+use Rattle.network.specs.Forecast.{leadInflow, forecastOwn, leadFigures}
+use Rattle.exact_run.specs.ExactForecast.{ExactState, exactLeadInflow, exactForecastOwn, exactNoObservation, exactLeadFigures}
+use Rattle.exact_run.specs.ExactStep.{exactReleased, exactOwnOf}
 use Rattle.exact_run.specs.Following.{Observes, no-reading}
 use Rattle.exact_run.proofs.StepNear.{step-near}
 
--- the two states agree: the same step count, the same rains at each basin, and figures that follow
+-- the two states agree: the same step count, the same rains at each basin, and figures that follow; what a dam lets out has no margin, so
+-- that both runs hold the same
 pub record Agrees (t : TableValues) (s : State) (x : ExactState) : Type 0 where
   pub steps : stepsOf s ≡ x .steps
   pub rains : (i : ℕ) → i < t .elements → t .element i .kind ≡ basin → rainsOf s i ≡ x .rains i
   pub figures : (i : ℕ) → i < t .elements → Follows (figuresOf s i) (x .figures i)
+  pub held : (i : ℕ) → i < t .elements → t .element i .kind ≡ dam → figuresOf s i .«discharge_margin» .0 ≡ 0
 
 module _ (t : TableValues) (s : State) (x : ExactState) (b : TableBounds t) (a : Agrees t s x) where
-  own-follows :
-      (lead i : ℕ)
-      → i < t .elements
-      → t .element i .kind ≡ basin
-      → Follows (forecastOwn t s lead i) (exactForecastOwn t x lead i)
-  unfolding forecastOwn exactForecastOwn
-  own-follows lead i l k = rw (← a .rains i l k, ← a .steps) (forecast-inflow-near _ _ _ _ lead _)
+  rain-follows : (lead i : ℕ) → i < t .elements → t .element i .kind ≡ basin → Follows (leadInflow t s lead i) (exactLeadInflow t x lead i)
+  unfolding leadInflow exactLeadInflow
+  rain-follows lead i l k = rw (← a .rains i l k, ← a .steps) (forecast-inflow-near _ _ _ _ lead _)
+
+  release-follows : (i : ℕ) → i < t .elements → t .element i .kind ≡ dam → Tracks (estimate (figuresOf s i .discharge .0) 0) (x .figures i .discharge)
+  release-follows i l k =
+      subst (λ (m : ℕ). Tracks (estimate (figuresOf s i .discharge .0) m) (x .figures i .discharge)) (a .held i l k) (a .figures i l .discharge)
+
+  own-follows : (lead i : ℕ) → i < t .elements → Follows (forecastOwn t s lead i) (exactForecastOwn t x lead i)
+  unfolding forecastOwn exactForecastOwn ownOf exactOwnOf released exactReleased
+  own-follows lead i l =
+      kind-both Follows (t .element i .kind) (rain-follows lead i l) (λ _. no-inflow-near)
+      (λ k. record { discharge = release-follows i l k; variance = first-near (t .element i .«system_noise» .0) }) (λ _ _ _. no-inflow-near)
 
   none : (i : ℕ) → Observes (noObservation i) (exactNoObservation i)
   unfolding noObservation exactNoObservation

@@ -16,15 +16,16 @@ use Rattle.method.specs.Figures.{discharge}
 use Rattle.method.specs.Inflow.{noInflow, joinedInflow}
 use Rattle.method.specs.Routing.{routed}
 use Rattle.exact.proofs.Theorems.{routing-margin-growth}
-use Rattle.weighting.proofs.WeightLaws.{weight-most}
+use Rattle.elements.specs.Kinds.{basin, reach}
 use Rattle.elements.proofs.KindLaws.{kind-cases}
 use Rattle.table.specs.Tables.{TableValues}
 use Rattle.table.specs.Bounds.{TableBounds}
 use Rattle.record.specs.declared.Observation.{Observation}
 use Rattle.record.specs.declared.Observation.the-variants.{Nothing}
 use Rattle.walk.specs.Walk.{drained, walked, gathered, newCell}
-use Rattle.element_step.specs.ElementStep.{inflowOf, correctedBy, moved, elementStep}
+use Rattle.element_step.specs.ElementStep.{correctedBy, moved, stored, elementStep}
 use Rattle.network.specs.Step.{weightOf, networkDown, networkCell, networkOutflow, aboveOf, newFigures}
+use Rattle.network.proofs.StepLaws.{weight-of-most}
 use Rattle.exact_run.specs.Limit.{next, atOrAbove, NoReading}
 use Rattle.exact_run.proofs.AboveLaws.{total, same, one, total-longer, above-most, above-sum, no-reading-here, no-reading-above}
 
@@ -51,16 +52,6 @@ move-limit H n d inflow old h ln ld vi vo mi mo W =
           (omega (arith, mul-le-mul ln ld)),
     )
 
--- the inflow's margin: a basin's own, or what is gathered
-inflow-margin :
-    (kind m : ℕ) (own above : Figures)
-    → marginOf own ≤ 1
-    → marginOf above ≤ m
-    → marginOf (inflowOf kind own above) ≤ m + 1
-unfolding inflowOf noInflow
-inflow-margin kind m own above p q =
-    kind-cases (λ (f : Figures). marginOf f ≤ m + 1) kind (λ _. omega arith) (λ _. omega arith) (λ _ _. omega arith)
-
 not-corrected : (o : Observation) (x : Figures) → o ≡ Nothing → correctedBy o x ≡ x
 unfolding correctedBy
 not-corrected o x e = rw e refl
@@ -81,8 +72,8 @@ module _
     (t : TableValues) (own : ℕ → Figures) (o : ℕ → Observation) (old : ℕ → Figures) (hasReading hasReading′ : ℕ → Bool) (n : ℕ)
     (b : TableBounds t) (few : suc n ≤ 10_000 + mostLeads)
     (old-fits : (i : ℕ) → i < t .elements → old i .discharge .0 ≤ C)
-    (inflow-fits :
-    (i : ℕ) → i < t .elements → inflowOf (t .element i .kind) (own i) (aboveOf t own o old i) .discharge .0 ≤ C)
+    (own-fits : (i : ℕ) → i < t .elements → t .element i .kind ≡ basin → own i .discharge .0 ≤ C)
+    (above-fits : (i : ℕ) → i < t .elements → t .element i .kind ≡ reach → aboveOf t own o old i .discharge .0 ≤ C)
     (own-margin : (i : ℕ) → i < t .elements → marginOf (own i) ≤ 1)
     (readings-stay : (k : ℕ) → hasReading k ≡ true → hasReading′ k ≡ true)
     (not-observed : (i : ℕ) → i < t .elements → hasReading′ (i + 1) ≡ false → o i ≡ Nothing)
@@ -147,9 +138,27 @@ module _
           )
       go so-far false e = omega (arith, so-far)
 
-  cell-low : (i : ℕ) → i < many → ((j : ℕ) → j < i → Low j) → Low i
-  unfolding newFigures newCell networkCell elementStep moved weightOf aboveOf gathered aboveBy
-  cell-low i l low q =
+  -- an element is itself at or above it
+  fewer : (i : ℕ) → i < many → aboveBy (suc i) i + 1 ≤ atOrAbove many down (suc i)
+  unfolding aboveBy
+  fewer i l =
+      omega (
+        arith,
+        above-sum many down down-most down-later (suc i) (omega arith) l,
+        total-longer (λ j. same (next down j) (suc i) * atOrAbove many down j) i many (omega arith),
+      )
+
+  -- an element that stores an inflow with d elements above it
+  stored-low :
+      (i : ℕ)
+      → i < many
+      → WithoutReading (suc i)
+      → (inflow : Figures)
+      → inflow .discharge .0 ≤ C
+      → ((d : ℕ) → atOrAbove many down (suc i) ≡ suc d → marginOf inflow ≤ 16 * suc n * d + 1)
+      → marginOf (stored (weightOf t i) (t .element i) (o i) inflow (old i)) ≤ 16 * suc n * atOrAbove many down (suc i)
+  unfolding stored moved
+  stored-low i l q inflow fits above =
       subst (λ (x : Figures). marginOf x ≤ 16 * suc n * atOrAbove many down (suc i))
       (sym (not-corrected (o i) _ (not-observed i l none)))
       (go (atOrAbove many down (suc i)) refl)
@@ -164,16 +173,29 @@ module _
           subst (λ (k : ℕ). NoReading many down hasReading k → marginOf (old i) ≤ 16 * n * atOrAbove many down k) (add-one i)
           (before i l) (no-reading-before many down hasReading hasReading′ (suc i) readings-stay q)
 
-      fewer : aboveBy (suc i) i + 1 ≤ atOrAbove many down (suc i)
-      fewer =
-          omega (
-            arith,
-            above-sum many down down-most down-later (suc i) (omega arith) l,
-            total-longer (λ j. same (next down j) (suc i) * atOrAbove many down j) i many (omega arith),
-          )
+      go :
+          (c : ℕ)
+          → atOrAbove many down (suc i) ≡ c
+          → marginOf (routed (weightOf t i) (t .element i .«system_noise» .0) inflow (old i)) ≤ 16 * suc n * c
+      go zero e = absurd (omega (arith, fewer i l))
+      go (suc d) e =
+          move-limit (weightOf t i) n d inflow (old i) (weight-of-most t i) few
+          (omega (arith, above-most many down (suc i), b .elementsMost)) fits (old-fits i l) (above d e)
+          (subst (λ (c : ℕ). marginOf (old i) ≤ 16 * n * c) e old-low)
+          (t .element i .«system_noise» .0)
 
+  -- each kind: a basin's own inflow has margin 1, a reach takes what is gathered, and a dam lets out its own
+  cell-low : (i : ℕ) → i < many → ((j : ℕ) → j < i → Low j) → Low i
+  unfolding newFigures newCell networkCell elementStep aboveOf gathered aboveBy noInflow
+  cell-low i l low q =
+      kind-cases (λ (x : Figures). marginOf x ≤ 16 * suc n * atOrAbove many down (suc i)) (t .element i .kind)
+      (λ k. stored-low i l q (own i) (own-fits i l k) (λ d e. omega (arith, own-margin i l)))
+      (λ k. stored-low i l q (aboveOf t own o old i) (above-fits i l k) (λ d e. omega (arith, gathered-low d e)))
+      (λ _. omega (arith, own-margin i l, mul-le-mul-left (16 * suc n) (fewer i l)))
+      (λ _ _ _. omega arith)
+    where
       at-most : (d : ℕ) → atOrAbove many down (suc i) ≡ suc d → aboveBy (suc i) i ≤ d
-      at-most d e = omega (arith, fewer)
+      at-most d e = omega (arith, fewer i l)
 
       gathered-by : marginOf (aboveOf t own o old i) ≤ 16 * suc n * aboveBy (suc i) i
       gathered-by =
@@ -187,18 +209,6 @@ module _
             gathered-by,
             mul-le-mul-left (16 * suc n) (at-most d e),
           )
-
-      go :
-          (c : ℕ)
-          → atOrAbove many down (suc i) ≡ c
-          → marginOf (routed (weightOf t i) (t .element i .«system_noise» .0) (inflowOf (t .element i .kind) (own i) (aboveOf t own o old i)) (old i)) ≤ 16 * suc n * c
-      go zero e = absurd (omega (arith, fewer))
-      go (suc d) e =
-          move-limit (weightOf t i) n d _ (old i) (weight-most (t .step) (t .element i .lag)) few
-          (omega (arith, above-most many down (suc i), b .elementsMost)) (inflow-fits i l) (old-fits i l)
-          (inflow-margin (t .element i .kind) (16 * suc n * d) (own i) _ (own-margin i l) (gathered-low d e))
-          (subst (λ (c : ℕ). marginOf (old i) ≤ 16 * n * c) e old-low)
-          (t .element i .«system_noise» .0)
 
   all-low : (m : ℕ) → m ≤ many → (j : ℕ) → j < m → Low j
   all-low zero l j h = absurd (omega arith)

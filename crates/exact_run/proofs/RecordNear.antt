@@ -7,13 +7,16 @@ use mathlib.Core.Path.{_≡_, refl}
 use native.Mathlib.Omega.{arith}
 use lib.Dec.{eqb}
 use Rattle.refusal.specs.Answers.{Answer, accepted, refused}
-use Rattle.refusal.proofs.RuleLaws.{rule-kept}
 use Rattle.units.specs.declared.Discharge.{Discharge}
 use Rattle.rating.specs.Rating.{rated}
-use Rattle.exact.specs.Exact.{exactRated}
-use Rattle.exact.specs.Margins.{Follows}
-use Rattle.exact.proofs.Theorems.{rating-near, step-inflow-near}
-use Rattle.fields.specs.Ranges.{allBelow}
+use Rattle.weighting.specs.Estimates.{estimate}
+use Rattle.method.specs.declared.Figures.{Figures}
+use Rattle.exact.specs.Fraction.{Fraction}
+use Rattle.exact.specs.Exact.{ExactFigures, exactRated}
+use Rattle.exact.specs.Margins.{Tracks, Follows}
+use Rattle.exact.proofs.Theorems.{first-near, rating-near, step-inflow-near, no-inflow-near}
+use Rattle.elements.specs.declared.Element.{Element}
+use Rattle.elements.proofs.KindLaws.{kind-both}
 use Rattle.fields.proofs.RangeLaws.{all-at}
 use Rattle.gauges.specs.declared.Gauge.{Gauge}
 use Rattle.gauges.specs.Bounds.{GaugeBounds}
@@ -23,12 +26,24 @@ use Rattle.record.specs.declared.Observation.{Observation}
 use Rattle.record.specs.declared.Observation.the-variants.{Nothing}
 use Rattle.record.specs.declared.Reading.{Reading}
 use Rattle.record.specs.declared.Reading.the-variants.{At, Gap}
-use Rattle.record.specs.Records.{piecesOf, readingAt, rateAnswer, observationOf, acceptedObservation, observationAt, atElement, inputRain, inputObservation, inputAt}
-use Rattle.table.specs.Basins.{basinCount}
-use Rattle.record.specs.Rules.{isAccepted, lengthFits, versionFits, rainFits, stageFits, readingFits, recordRules}
+use Rattle.record.specs.Records.{piecesOf, readingAt, rateAnswer, observationOf, acceptedObservation, observationAt, atElement, inputRain, inputRelease, inputObservation, inputAt}
+use Rattle.record.specs.Rules.{isAccepted, readingFits, recordRules}
+use Rattle.record.proofs.RecordLaws.{rules-kept}
+use Rattle.element_step.specs.ElementStep.{released, ownOf}
 use Rattle.network.specs.Step.{stepOwn, observedIn}
-use Rattle.exact_run.specs.ExactStep.{ExactObservation, nothing, exactReading, exactObserved, exactObservationIn, exactOwn}
+use Rattle.exact_run.specs.ExactStep.{ExactObservation, nothing, exactReading, exactObserved, exactObservationIn, exactReleased, exactOwnOf, exactOwn}
 use Rattle.exact_run.specs.Following.{Observes, no-reading, reading}
+
+-- what an element has of its own: the inflow of a basin, and the release of a dam, which is exact
+pub own-follows :
+    (e : Element) {inflow : Figures} {inflow* : ExactFigures} {release : ℕ} {release* : Fraction}
+    → Follows inflow inflow*
+    → Tracks (estimate release 0) release*
+    → Follows (ownOf (e .kind) inflow (released e release)) (exactOwnOf (e .kind) inflow* (exactReleased e release*))
+unfolding ownOf exactOwnOf released exactReleased
+own-follows e i r =
+    kind-both Follows (e .kind) (λ _. i) (λ _. no-inflow-near) (λ _. record { discharge = r; variance = first-near (e .«system_noise» .0) })
+    (λ _ _ _. no-inflow-near)
 
 -- one gauge whose reading rule 14 accepts
 module _ (n : ℕ) (gauge : Gauge) (b : GaugeBounds n gauge) where
@@ -50,13 +65,8 @@ module _ (n : ℕ) (gauge : Gauge) (b : GaugeBounds n gauge) where
 
 module _ (t : TableValues) (bytes : List ℕ) (b : TableBounds t) (kept : recordRules {A = Unit} t bytes (accepted tt) ≡ accepted tt) where
   accepted-reading : (g : ℕ) → g < t .gauges → isAccepted (observationOf (t .gauge g) (readingAt t bytes g)) ≡ true
-  unfolding recordRules readingFits
-  accepted-reading g l =
-      let r = rule-kept 10 (lengthFits bytes (basinCount t) (t .gauges)) _ kept .1 in
-      let s = rule-kept 11 (versionFits bytes) _ r .1 in
-      let u = rule-kept 12 (allBelow (rainFits bytes) (basinCount t)) _ s .1 in
-      let v = rule-kept 13 (allBelow (stageFits bytes (basinCount t)) (t .gauges)) _ u .1 in
-      all-at (readingFits t bytes) (t .gauges) g l (rule-kept 14 (allBelow (readingFits t bytes) (t .gauges)) _ v .0)
+  unfolding readingFits
+  accepted-reading g l = all-at (readingFits t bytes) (t .gauges) g l (rules-kept t bytes kept .readings)
 
   at-element :
       (i m : ℕ)
@@ -73,11 +83,13 @@ module _ (t : TableValues) (bytes : List ℕ) (b : TableBounds t) (kept : record
       go true x y = x
       go false x y = y
 
-  -- the observation and the own inflow of element i
+  -- the observation of element i, and what it has of its own
   pub observation-near : (i : ℕ) → Observes (observedIn (inputAt t bytes) i) (exactObservationIn t bytes i)
   unfolding observedIn inputAt inputObservation exactObservationIn
   observation-near i = at-element i (t .gauges) (omega arith)
 
   pub own-near : (i : ℕ) → Follows (stepOwn t (inputAt t bytes) i) (exactOwn t bytes i)
   unfolding stepOwn inputAt exactOwn
-  own-near i = step-inflow-near (inputRain t bytes i) (t .element i .area) (t .element i .runoff)
+  own-near i =
+      own-follows (t .element i) (step-inflow-near (inputRain t bytes i) (t .element i .area) (t .element i .runoff))
+      (first-near (inputRelease t bytes i))

@@ -10,8 +10,8 @@ use Rattle.method.specs.declared.Figures.{Figures}
 use Rattle.exact.specs.Exact.{ExactFigures}
 use Rattle.exact.specs.Margins.{Follows}
 use Rattle.exact.proofs.Theorems.{first-near}
-use Rattle.elements.specs.Kinds.{basin}
-use Rattle.elements.proofs.KindLaws.{by-basin}
+use Rattle.elements.specs.Kinds.{basin, dam}
+use Rattle.elements.proofs.KindLaws.{by-basin, by-dam}
 use Rattle.table.specs.Tables.{TableValues}
 use Rattle.table.specs.Bounds.{TableBounds}
 use Rattle.record.specs.Records.{Input, inputRain, inputAt}
@@ -20,9 +20,10 @@ use Rattle.state.specs.declared.Rains.{Rains}
 use Rattle.state.specs.States.{State, figuresOf, rainsOf}
 use Rattle.state.specs.Start.{firstFigures, started}
 use Rattle.state.proofs.StateLaws.{started-steps, started-figures, started-rains}
+use Rattle.element_step.specs.ElementStep.{released, ownOf}
 use Rattle.element_step.specs.Rains.{shiftedRains, rainsAfter}
 use Rattle.network.specs.Step.{observedIn, stepOwn, stepFigures, stepped}
-use Rattle.network.proofs.StepLaws.{stepped-steps, stepped-figures, stepped-rains}
+use Rattle.network.proofs.StepLaws.{dam-lets-out, stepped-steps, stepped-figures, stepped-rains}
 use Rattle.exact_run.specs.ExactForecast.{ExactState}
 use Rattle.exact_run.specs.ExactRun.{exactStarted, exactStepped}
 use Rattle.exact_run.proofs.StepNear.{step-near}
@@ -36,7 +37,7 @@ follows-as {f} {g} {x} e h = subst (λ (y : Figures). Follows y x) (sym e) h
 -- the rains of a basin after a step
 basin-rains : (kind rain : ℕ) (r : Rains) → kind ≡ basin → rainsAfter kind rain r ≡ shiftedRains rain r
 unfolding rainsAfter
-basin-rains kind rain r k = by-basin kind _ _ _ k
+basin-rains kind rain r k = by-basin kind _ _ _ _ k
 
 module _ (t : TableValues) (s : State) (b : TableBounds t) (full : length s ≡ stateNumbers) where
   -- after a start
@@ -49,6 +50,7 @@ module _ (t : TableValues) (s : State) (b : TableBounds t) (full : length s ≡ 
         figures = λ i l.
             follows-as (started-figures t s full (b .elementsMost) i l)
             (record { discharge = first-near _; variance = first-near _ });
+        held = λ i l k. ap (λ (f : Figures). f .«discharge_margin» .0) (started-figures t s full (b .elementsMost) i l);
       }
 
   -- after an accepted step
@@ -68,6 +70,13 @@ module _ (t : TableValues) (s : State) (b : TableBounds t) (full : length s ≡ 
         stepped-rains t input s full (b .elementsMost) i l k
         ∙ (ap (shiftedRains (inputRain t bytes i)) (a .rains i l k) ∙ sym (basin-rains (t .element i .kind) _ _ k))
 
+    -- what a dam lets out has no margin
+    no-margin : (i : ℕ) → t .element i .kind ≡ dam → stepFigures t input s i .«discharge_margin» .0 ≡ 0
+    unfolding stepFigures stepOwn ownOf released
+    no-margin i k =
+        ap (λ (f : Figures). f .«discharge_margin» .0)
+        (dam-lets-out t (stepOwn t input) (observedIn input) (figuresOf s) i k ∙ by-dam (t .element i .kind) _ _ _ _ k)
+
     pub step-agrees : Agrees t (stepped t input s) (exactStepped t bytes x)
     unfolding exactStepped stepFigures
     step-agrees =
@@ -76,6 +85,8 @@ module _ (t : TableValues) (s : State) (b : TableBounds t) (full : length s ≡ 
           rains = rains-agree;
           figures = λ i l.
               follows-as (stepped-figures t input s full (b .elementsMost) i l)
-              (step-near t (stepOwn t input) (observedIn input) (figuresOf s) _ _ (x .figures) b (λ k _ _. own-near t bytes b kept k)
+              (step-near t (stepOwn t input) (observedIn input) (figuresOf s) _ _ (x .figures) b (λ k _. own-near t bytes b kept k)
               (λ k _. observation-near t bytes b kept k) (a .figures) i l);
+          held = λ i l k.
+              ap (λ (f : Figures). f .«discharge_margin» .0) (stepped-figures t input s full (b .elementsMost) i l) ∙ no-margin i k;
         }

@@ -1,8 +1,9 @@
--- Document 01, The run in fractions: "The same steps with exact F, no [ ], no margins and no ceiling."
+-- Document 01, The run in fractions: "The same steps with exact F, no [ ], no margins and no ceiling."; document 02, M-100: "The run in
+-- fractions does the same with the same release, and its dam's variance after a step or lead is W too."
 use Prim.Native.Nat.{ℕ}
 use mathlib.Core.List.{List}
 use Rattle.refusal.specs.Answers.{Answer, accepted, refused}
-use Rattle.exact.specs.Fraction.{Fraction}
+use Rattle.exact.specs.Fraction.{Fraction, whole}
 use Rattle.exact.specs.Series.{F}
 use Rattle.exact.specs.Exact.{ExactFigures, exactRouted, exactCorrected, exactRated, exactStepInflow, exactNothing, exactSum}
 use Rattle.elements.specs.declared.Element.{Element}
@@ -11,7 +12,7 @@ use Rattle.gauges.specs.declared.Gauge.{Gauge}
 use Rattle.table.specs.Tables.{TableValues}
 use Rattle.record.specs.declared.Reading.{Reading}
 use Rattle.record.specs.declared.Reading.the-variants.{At, Gap}
-use Rattle.record.specs.Records.{piecesOf, readingAt, atElement, inputRain}
+use Rattle.record.specs.Records.{piecesOf, readingAt, atElement, inputRain, inputRelease}
 use Rattle.walk.specs.Walk.{newCell}
 use Rattle.network.specs.Step.{networkDown}
 
@@ -28,26 +29,36 @@ unfoldable pub exactObserved : Gauge → Reading → ExactObservation
 exactObserved gauge Gap = nothing
 exactObserved gauge (At h) = exactReading (gauge .noise .0) (exactRated (h .0) (piecesOf (gauge .curve)))
 
--- what a record brings element i: what the gauge at it observes, and a basin's own inflow
+-- what a record brings element i: what the gauge at it observes, and what it has of its own
 unfoldable pub exactObservationIn : TableValues → List ℕ → ℕ → ExactObservation
 exactObservationIn t bytes i = atElement t nothing (λ g. exactObserved (t .gauge g) (readingAt t bytes g)) i (t .gauges)
 
-unfoldable pub exactOwn : TableValues → List ℕ → ℕ → ExactFigures
-exactOwn t bytes i = exactStepInflow (inputRain t bytes i) (t .element i .area) (t .element i .runoff)
+-- of a dam and what it lets out
+unfoldable pub exactReleased : Element → Fraction → ExactFigures
+exactReleased e release = record { discharge = release; variance = whole (e .«system_noise» .0) }
 
--- the inflow: a basin's own, a reach's from above
-unfoldable pub exactInflowOf : ℕ → ExactFigures → ExactFigures → ExactFigures
-exactInflowOf kind own above = byKind kind own above exactNothing
+-- a basin has the inflow from its rain, a dam what it lets out
+unfoldable pub exactOwnOf : ℕ → ExactFigures → ExactFigures → ExactFigures
+exactOwnOf kind inflow letOut = byKind kind inflow exactNothing letOut exactNothing
+
+unfoldable pub exactOwn : TableValues → List ℕ → ℕ → ExactFigures
+exactOwn t bytes i =
+    let e = t .element i in
+    exactOwnOf (e .kind) (exactStepInflow (inputRain t bytes i) (e .area) (e .runoff)) (exactReleased e (whole (inputRelease t bytes i)))
 
 -- "A reading then takes these two as x and v"
 unfoldable pub exactCorrectedBy : ExactObservation → ExactFigures → ExactFigures
 exactCorrectedBy nothing x = x
 exactCorrectedBy (rated z R) x = exactCorrected R z x
 
+-- an element that stores its inflow, a basin or a reach
+unfoldable pub exactStored : ℕ → Element → ExactObservation → ExactFigures → ExactFigures → ExactFigures
+exactStored T e o inflow old = exactCorrectedBy o (exactRouted (F T (e .lag)) (e .«system_noise» .0) inflow old)
+
+-- any: a basin takes its own inflow, a reach what drains in; a dam lets out its release
 unfoldable pub exactElementStep :
     ℕ → Element → ExactFigures → ExactObservation → ExactFigures → ExactFigures → ExactFigures
-exactElementStep T e own o above old =
-    exactCorrectedBy o (exactRouted (F T (e .lag)) (e .«system_noise» .0) (exactInflowOf (e .kind) own above) old)
+exactElementStep T e own o above old = byKind (e .kind) (exactStored T e o own old) (exactStored T e o above old) own exactNothing
 
 unfoldable pub exactCell :
     TableValues → (ℕ → ExactFigures) → (ℕ → ExactObservation) → ℕ → ExactFigures → ExactFigures → ExactFigures

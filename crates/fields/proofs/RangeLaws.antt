@@ -1,9 +1,9 @@
 -- Laws of the tests that the rules are made of.
 use Prim.Native.Nat.{ℕ, zero, suc, _+_, _≤_, _<_}
-use mathlib.Core.Bool.{Bool, true, false, cond, _&&_, _||_}
+use mathlib.Core.Bool.{Bool, true, false, cond, not, _&&_, _||_}
 use mathlib.Core.Logic.{_⊎_, inl, inr, ⊎-elim}
 use mathlib.Core.Path.{_≡_, refl, sym, _∙_}
-use borrow.Author.Tests.{leb-true, le-leb}
+use borrow.Author.Tests.{leb-true, not-true, not-false}
 use native.Mathlib.Nat.{eq-or-lt-of-le}
 use native.Mathlib.Numerals.{add-one}
 use native.Mathlib.Omega.{arith}
@@ -84,3 +84,10 @@ module _ (test : ℕ → Bool) where
   pub all-more : (n : ℕ) {all one : Bool} → all ≡ allBelow test n → one ≡ test n → (all && one) ≡ allBelow test (n + 1)
   unfolding allBelow
   all-more n h k = rw (add-one, h, k)
+
+-- a test that the code worked out and found kept, or broken
+pub kept : {fit test : Bool} → fit ≡ test → not fit ≡ false → test ≡ true
+kept {fit} e h = sym e ∙ not-false fit h
+
+pub broken : {fit test : Bool} → fit ≡ test → not fit ≡ true → test ≡ false
+broken {fit} e h = sym e ∙ not-true fit h

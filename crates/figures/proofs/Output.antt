@@ -1,27 +1,27 @@
 -- The whole output of document 01's example, by computation.
 use mathlib.Core.Path.{_≡_, refl}
-use Rattle.element_step.specs.ElementStep.{inflowOf, correctedBy, moved, elementStep, observationNumbers, moveNumbers, elementNumbers}
+use Rattle.element_step.specs.ElementStep.{released, ownOf, correctedBy, moved, stored, elementStep, observationNumbers, moveNumbers, storedNumbers, elementNumbers}
 use Rattle.element_step.specs.Rains.{shiftedRains}
 use Rattle.elements.specs.Elements.{elementAt}
 use Rattle.elements.specs.Kinds.{byKind}
-use Rattle.elements.specs.Rules.{basinFits, reachFits, kindFits, elementFits, downFits}
+use Rattle.elements.specs.Rules.{lagFits, basinFits, reachFits, damFits, kindFits, elementFits, downFits}
 use Rattle.entries.specs.Entries.{startAnswer, stepOnAnswer, stepAnswer, forecastOnAnswer, forecastAnswer}
 use Rattle.fields.specs.Ranges.{allBelow}
 use Rattle.gauges.specs.Gauges.{offsetOf, pieceAt, gaugeAt}
-use Rattle.gauges.specs.Rules.{offsetFits, offsetZero, pieceOf, topBefore, pieceInUseFits, pieceUnused, pieceFits, curveFits, elementBefore, gaugeFits}
+use Rattle.gauges.specs.Rules.{offsetFits, offsetZero, pieceOf, topBefore, pieceInUseFits, pieceUnused, pieceFits, curveFits, elementBefore, notOnDam, gaugeFits}
 use Rattle.lines.specs.Printed.{joined, lineFrom, elementLines, answerLines, refusalLine}
 use Rattle.method.specs.Correction.{gain, gainMargin, correctedDischarge, correctedVariance, corrected, correctionNumbers}
 use Rattle.method.specs.Inflow.{stepInflow, noInflow, joinedInflow, meanRainInflow, forecastInflow, inflowNumbers}
 use Rattle.method.specs.Routing.{routedDischarge, oldVariancePart, inflowVariancePart, routedVariance, routed, varianceNumbers, routingNumbers}
 use Rattle.network.specs.Answer.{listed, byElementAndLead, forecastFigures, spaceFits, leadsAnswer}
-use Rattle.network.specs.Forecast.{rainCount, rainSum, forecastOwn, leadFigures, leadNumbers}
+use Rattle.network.specs.Forecast.{rainCount, rainSum, leadInflow, forecastOwn, leadFigures, leadNumbers}
 use Rattle.network.specs.Lent.{layout}
 use Rattle.network.specs.Step.{weightOf, networkDown, networkCell, networkOutflow, aboveOf, newFigures, networkNumbers, stepOwn, observedIn, noObservation, stepFigures, stepPut, stepped, stepNumbers}
 use Rattle.rating.specs.Rating.{pieceFor, depth, dischargeAt, onPiece, rated}
-use Rattle.record.specs.Records.{rainAt, stageAt, readingOf, readingAt, piecesOf, rateAnswer, observationOf, acceptedObservation, observationAt, atElement, rainOf, inputRain, inputObservation, inputAt}
-use Rattle.table.specs.Basins.{basinsBefore, basinCount}
-use Rattle.elements.specs.Kinds.{basinOf}
-use Rattle.record.specs.Rules.{rainFits, stageFits, isAccepted, readingFits, recordRules}
+use Rattle.record.specs.Records.{rainAt, releaseAt, stageAt, readingOf, readingAt, piecesOf, rateAnswer, observationOf, acceptedObservation, observationAt, atElement, rainOf, releaseOf, inputRain, inputRelease, inputObservation, inputAt}
+use Rattle.table.specs.KindCounts.{countBefore}
+use Rattle.elements.specs.Kinds.{basinOf, damOf}
+use Rattle.record.specs.Rules.{rainFits, releaseFits, stageFits, isAccepted, readingFits, recordRules}
 use Rattle.record.specs.Rules as record-rules
 use Rattle.program.specs.Program.{recordBytes, restAfter, recordsText, runText, program}
 use Rattle.program.specs.Records.{figuresLines, refusalPrinted, forecastPrinted, stepPrinted, recordPrinted}
@@ -42,5 +42,5 @@ use Rattle.weighting.specs.Weight.{turned, weight}
 use Rattle.figures.specs.Starred.{exampleInput, exampleOutput}
 
 pub whole-output : program exampleInput ≡ exampleOutput
-unfolding inflowOf correctedBy moved elementStep observationNumbers moveNumbers elementNumbers shiftedRains elementAt byKind basinFits reachFits kindFits elementFits downFits startAnswer stepOnAnswer stepAnswer forecastOnAnswer forecastAnswer allBelow offsetOf pieceAt gaugeAt offsetFits offsetZero pieceOf topBefore pieceInUseFits pieceUnused pieceFits curveFits elementBefore gaugeFits joined lineFrom elementLines answerLines refusalLine gain gainMargin correctedDischarge correctedVariance corrected correctionNumbers stepInflow noInflow joinedInflow meanRainInflow forecastInflow inflowNumbers routedDischarge oldVariancePart inflowVariancePart routedVariance routed varianceNumbers routingNumbers listed byElementAndLead forecastFigures spaceFits leadsAnswer rainCount rainSum forecastOwn leadFigures leadNumbers layout weightOf networkDown networkCell networkOutflow aboveOf newFigures networkNumbers stepOwn observedIn noObservation stepFigures stepPut stepped stepNumbers pieceFor depth dischargeAt onPiece rated basinOf basinsBefore basinCount rainAt stageAt readingOf readingAt piecesOf rateAnswer observationOf acceptedObservation observationAt atElement rainOf inputRain inputObservation inputAt record-rules.lengthFits record-rules.versionFits rainFits stageFits isAccepted readingFits recordRules recordBytes restAfter recordsText runText program figuresLines refusalPrinted forecastPrinted stepPrinted recordPrinted figuresFit rainsFit placeFits stateFits stepsLeft firstFigures firstPut started figuresOf rainsOf placeOf putFigures putRains putPlace changed below inUse tableIn table-rules.lengthFits table-rules.versionFits countsFit sizeFits tableRules tableOf tablePart emptyState inputAnswer digitsWithin decimal line somePasses underCeiling drained walked gathered newCell weightedMean gapOf blended turned weight
+unfolding released ownOf correctedBy moved stored elementStep observationNumbers moveNumbers storedNumbers elementNumbers shiftedRains elementAt byKind lagFits basinFits reachFits damFits kindFits elementFits downFits startAnswer stepOnAnswer stepAnswer forecastOnAnswer forecastAnswer allBelow offsetOf pieceAt gaugeAt offsetFits offsetZero pieceOf topBefore pieceInUseFits pieceUnused pieceFits curveFits elementBefore notOnDam gaugeFits joined lineFrom elementLines answerLines refusalLine gain gainMargin correctedDischarge correctedVariance corrected correctionNumbers stepInflow noInflow joinedInflow meanRainInflow forecastInflow inflowNumbers routedDischarge oldVariancePart inflowVariancePart routedVariance routed varianceNumbers routingNumbers listed byElementAndLead forecastFigures spaceFits leadsAnswer rainCount rainSum leadInflow forecastOwn leadFigures leadNumbers layout weightOf networkDown networkCell networkOutflow aboveOf newFigures networkNumbers stepOwn observedIn noObservation stepFigures stepPut stepped stepNumbers pieceFor depth dischargeAt onPiece rated basinOf damOf countBefore rainAt releaseAt stageAt readingOf readingAt piecesOf rateAnswer observationOf acceptedObservation observationAt atElement rainOf releaseOf inputRain inputRelease inputObservation inputAt record-rules.lengthFits record-rules.versionFits rainFits releaseFits stageFits isAccepted readingFits recordRules recordBytes restAfter recordsText runText program figuresLines refusalPrinted forecastPrinted stepPrinted recordPrinted figuresFit rainsFit placeFits stateFits stepsLeft firstFigures firstPut started figuresOf rainsOf placeOf putFigures putRains putPlace changed below inUse tableIn table-rules.lengthFits table-rules.versionFits countsFit sizeFits tableRules tableOf tablePart emptyState inputAnswer digitsWithin decimal line somePasses underCeiling drained walked gathered newCell weightedMean gapOf blended turned weight
 whole-output = refl

@@ -46,6 +46,7 @@ fn put_first(state: &mut [u64; STATE_NUMBERS], i: usize, e: Element)
             put_rains(&mut *state, i, dry);
         }
         elements::REACH => {}
+        elements::DAM => {}
         _ => {}
     }
 }

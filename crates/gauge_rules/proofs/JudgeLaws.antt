@@ -1,34 +1,43 @@
 -- Laws of rule 7 on one gauge, test by test.
-use Prim.Native.Nat.{ℕ, _≤_, _<_}
+use Prim.Native.Nat.{ℕ, _-_, _≤_, _<_}
 use mathlib.Core.Bool.{Bool, true, false}
+use mathlib.Core.Logic.{_≢_}
 use mathlib.Core.Path.{_≡_}
-use borrow.Author.Tests.{lt-ltb, le-ltb, lt-leb, le-leb}
+use borrow.Author.Tests.{lt-ltb, le-ltb, lt-leb, le-leb, eq-eqb, ne-eqb}
 use Rattle.units.specs.Units.{C}
 use Rattle.fields.specs.Ranges.{inRange}
+use Rattle.elements.specs.declared.Element.{Element}
+use Rattle.elements.specs.Kinds.{dam}
 use Rattle.gauges.specs.declared.Gauge.{Gauge}
-use Rattle.gauges.specs.Rules.{elementBefore, curveFits, gaugeFits}
+use Rattle.gauges.specs.Rules.{elementBefore, curveFits, notOnDam, gaugeFits}
 
 -- the element of gauge g and that of the gauge before it
-module _ (n : ℕ) (gauge : ℕ → Gauge) (g : ℕ) {above element : ℕ} (a : above ≡ elementBefore gauge g) (e : element ≡ gauge g .element) where
-  pub not-after : element ≤ above → false ≡ gaugeFits n gauge g
+module _
+    (n : ℕ) (element : ℕ → Element) (gauge : ℕ → Gauge) (g : ℕ) {above number : ℕ} (a : above ≡ elementBefore gauge g)
+    (e : number ≡ gauge g .element) where
+  pub not-after : number ≤ above → false ≡ gaugeFits n element gauge g
   unfolding gaugeFits
   not-after l = rw (← a, ← e, le-ltb _ _ l)
 
-  pub too-late : above < element → n < element → false ≡ gaugeFits n gauge g
-  unfolding gaugeFits
-  too-late l m = rw (← a, ← e, lt-ltb _ _ l, lt-leb _ _ m)
+  module _ (after : above < number) where
+    pub too-late : n < number → false ≡ gaugeFits n element gauge g
+    unfolding gaugeFits
+    too-late m = rw (← a, ← e, lt-ltb _ _ after, lt-leb _ _ m)
 
-  pub noise-broken :
-      above < element → element ≤ n → inRange (gauge g .noise .0) 1 C ≡ false → false ≡ gaugeFits n gauge g
-  unfolding gaugeFits
-  noise-broken l m r = rw (← a, ← e, lt-ltb _ _ l, le-leb _ _ m, r)
+    module _ (there : number ≤ n) {kind : ℕ} (k : kind ≡ element (number - 1) .kind) where
+      pub on-dam : kind ≡ dam → false ≡ gaugeFits n element gauge g
+      unfolding gaugeFits notOnDam
+      on-dam d = rw (← a, ← e, lt-ltb _ _ after, le-leb _ _ there, ← k, eq-eqb _ _ d)
 
-  pub curve-left :
-      above < element
-      → element ≤ n
-      → inRange (gauge g .noise .0) 1 C ≡ true
-      → {fit : Bool}
-      → fit ≡ curveFits (gauge g .curve)
-      → fit ≡ gaugeFits n gauge g
-  unfolding gaugeFits
-  curve-left l m r f = rw (← a, ← e, lt-ltb _ _ l, le-leb _ _ m, r) f
+      module _ (free : kind ≢ dam) where
+        pub noise-broken : inRange (gauge g .noise .0) 1 C ≡ false → false ≡ gaugeFits n element gauge g
+        unfolding gaugeFits notOnDam
+        noise-broken r = rw (← a, ← e, lt-ltb _ _ after, le-leb _ _ there, ← k, ne-eqb _ _ free, r)
+
+        pub curve-left :
+            inRange (gauge g .noise .0) 1 C ≡ true
+            → {fit : Bool}
+            → fit ≡ curveFits (gauge g .curve)
+            → fit ≡ gaugeFits n element gauge g
+        unfolding gaugeFits notOnDam
+        curve-left r f = rw (← a, ← e, lt-ltb _ _ after, le-leb _ _ there, ← k, ne-eqb _ _ free, r) f

@@ -4,10 +4,12 @@ ghost use Prim.Native.Nat.{_+_, _*_, _≤_};
 ghost use lib.ListN.{length};
 ghost use Rattle.sizes.specs.Sizes.{mostElements, mostGauges};
 ghost use Rattle.fields.specs.Ranges.{allBelow};
+ghost use Rattle.elements.specs.Elements.{elementAt};
 ghost use Rattle.gauges.specs.Gauges.{gaugeAt};
 ghost use Rattle.gauges.specs.Rules.{gaugeFits};
 ghost use Rattle.gauge_rules.specs.Judged.{GaugeAfter};
 use curve_rules::curve_fits;
+use elements::kind_at;
 use fields::bytes::whole32;
 use fields::bytes::wide;
 use fields::range::in_range;
@@ -17,7 +19,7 @@ use units::Variance;
 // Rule 7 on gauge g, counted from 0, given the element of the gauge before it (0 before the first).
 fn gauge_fits(table: &[u8], n: usize, g: usize, above: usize) -> bool
     requires { ⌜ GaugeAfter (now table) n g above ⌝ }
-    ensures { λ r. ⌜ r ≡ gaugeFits n (gaugeAt (now (table .entry)) n) g ⌝ }
+    ensures { λ r. ⌜ r ≡ gaugeFits n (elementAt (now (table .entry))) (gaugeAt (now (table .entry)) n) g ⌝ }
 {
     let at = 26 * n + 46 * g + 10;
     let element = wide(table[at]) as usize;
@@ -25,6 +27,10 @@ fn gauge_fits(table: &[u8], n: usize, g: usize, above: usize) -> bool
         return false;
     }
     if n < element {
+        return false;
+    }
+    let kind = kind_at(table, element - 1);
+    if kind == elements::DAM {
         return false;
     }
     if !in_range(whole32(table, at + 2), 1, Variance::CEILING) {
@@ -36,7 +42,7 @@ fn gauge_fits(table: &[u8], n: usize, g: usize, above: usize) -> bool
 // Whether the first m gauges of a table with n elements keep rule 7.
 pub fn gauges_fit(table: &[u8], n: usize, m: usize) -> bool
     requires { ⌜ (n ≤ mostElements) × ((m ≤ mostGauges) × (26 * n + 46 * m + 10 ≤ length (now table))) ⌝ }
-    ensures { λ r. ⌜ r ≡ allBelow (gaugeFits n (gaugeAt (now (table .entry)) n)) m ⌝ }
+    ensures { λ r. ⌜ r ≡ allBelow (gaugeFits n (elementAt (now (table .entry))) (gaugeAt (now (table .entry)) n)) m ⌝ }
 {
     let mut above: usize = 0;
     for g in 0..m {

@@ -14,11 +14,12 @@ use Rattle.rating.specs.declared.Offset.the-variants.{Plus, Minus}
 use Rattle.rating.specs.declared.Piece.{Piece}
 use Rattle.rating.specs.declared.Curve.{Curve}
 use Rattle.fields.specs.Ranges.{inRange, allBelow}
-use Rattle.fields.proofs.RangeLaws.{all-three, all-four, range-bounds, all-at}
+use Rattle.fields.proofs.RangeLaws.{all-three, all-five, range-bounds, all-at}
+use Rattle.elements.specs.declared.Element.{Element}
 use Rattle.gauges.specs.declared.Gauge.{Gauge}
 use Rattle.gauges.specs.Gauges.{pieceAt, gaugeAt}
 use Rattle.gauges.specs.Places.{curveAt}
-use Rattle.gauges.specs.Rules.{offsetFits, pieceOf, topBefore, pieceInUseFits, pieceFits, curveFits, elementBefore, gaugeFits}
+use Rattle.gauges.specs.Rules.{offsetFits, pieceOf, topBefore, pieceInUseFits, pieceFits, curveFits, elementBefore, notOnDam, gaugeFits}
 use Rattle.gauges.specs.Bounds.{GaugeBounds}
 
 -- piece j of a curve, where it stands
@@ -78,27 +79,31 @@ curve-bounds curve h =
     }
 
 -- gauges rise strictly by element
-pub gauge-rises : (n : ℕ) (gauge : ℕ → Gauge) (g : ℕ) → gaugeFits n gauge (g + 1) ≡ true → gauge g .element < gauge (g + 1) .element
+pub gauge-rises :
+    (n : ℕ) (element : ℕ → Element) (gauge : ℕ → Gauge) (g : ℕ)
+    → gaugeFits n element gauge (g + 1) ≡ true
+    → gauge g .element < gauge (g + 1) .element
 unfolding gaugeFits elementBefore
-gauge-rises n gauge g h =
+gauge-rises n element gauge g h =
     let next = gauge (g + 1) in
     let later = ltb (elementBefore gauge (g + 1)) (next .element) in
     let noise = inRange (next .noise .0) 1 C in
-    let k = all-four later (leb (next .element) n) noise (curveFits (next .curve)) h in
+    let k = all-five later (leb (next .element) n) (notOnDam element next) noise (curveFits (next .curve)) h in
     let e : elementBefore gauge (g + 1) ≡ gauge g .element = rw add-one in
     omega (arith, ltb-true (elementBefore gauge (g + 1)) (next .element) (k .0))
 
-pub gauge-bounds : (n : ℕ) (gauge : ℕ → Gauge) (g : ℕ) → gaugeFits n gauge g ≡ true → GaugeBounds n (gauge g)
+pub gauge-bounds :
+    (n : ℕ) (element : ℕ → Element) (gauge : ℕ → Gauge) (g : ℕ) → gaugeFits n element gauge g ≡ true → GaugeBounds n (gauge g)
 unfolding gaugeFits
-gauge-bounds n gauge g h =
+gauge-bounds n element gauge g h =
     let e = gauge g .element in
     let later = ltb (elementBefore gauge g) e in
     let noise = inRange (gauge g .noise .0) 1 C in
-    let k = all-four later (leb e n) noise (curveFits (gauge g .curve)) h in
+    let k = all-five later (leb e n) (notOnDam element (gauge g)) noise (curveFits (gauge g .curve)) h in
     record {
       elementLeast = omega (arith, ltb-true (elementBefore gauge g) e (k .0));
       elementMost = leb-true _ _ (k .1 .0);
-      noiseLeast = range-bounds _ _ _ (k .1 .1 .0) .0;
-      noiseMost = range-bounds _ _ _ (k .1 .1 .0) .1;
-      curve = curve-bounds _ (k .1 .1 .1);
+      noiseLeast = range-bounds _ _ _ (k .1 .1 .1 .0) .0;
+      noiseMost = range-bounds _ _ _ (k .1 .1 .1 .0) .1;
+      curve = curve-bounds _ (k .1 .1 .1 .1);
     }

@@ -1,6 +1,6 @@
--- Document 01, Numbers for no, 7, with the ranges of The table.
+-- Document 01, Numbers for no, 7, with the ranges of The table, and document 02, M-100.
 use Prim.Native.Nat.{ℕ, zero, suc, _-_}
-use mathlib.Core.Bool.{Bool, cond, _&&_}
+use mathlib.Core.Bool.{Bool, cond, not, _&&_}
 use lib.Dec.{ltb, leb, eqb}
 use lib.ListN.{getD}
 use Rattle.units.specs.Units.{C}
@@ -10,6 +10,8 @@ use Rattle.rating.specs.declared.Piece.{Piece}
 use Rattle.rating.specs.declared.Curve.{Curve}
 use Rattle.rating.specs.Rating.{noPiece}
 use Rattle.fields.specs.Ranges.{inRange, allBelow}
+use Rattle.elements.specs.declared.Element.{Element}
+use Rattle.elements.specs.Kinds.{dam}
 use Rattle.gauges.specs.declared.Gauge.{Gauge}
 
 -- 7: "A gauge field is out of range or out of order."
@@ -53,8 +55,13 @@ unfoldable pub elementBefore : (ℕ → Gauge) → ℕ → ℕ
 elementBefore gauge zero = 0
 elementBefore gauge (suc g) = gauge g .element
 
+-- M-100: "rule 7 refuses a gauge on one", a dam
+unfoldable pub notOnDam : (ℕ → Element) → Gauge → Bool
+notOnDam element gauge = not (eqb (element (gauge .element - 1) .kind) dam)
+
 -- "A gauge's element is 1 to N; gauges rise strictly by element." "R 1 to C.", of gauge g at n elements
-unfoldable pub gaugeFits : ℕ → (ℕ → Gauge) → ℕ → Bool
-gaugeFits n gauge g =
-    ((ltb (elementBefore gauge g) (gauge g .element) && leb (gauge g .element) n) && inRange (gauge g .noise .0) 1 C)
+unfoldable pub gaugeFits : ℕ → (ℕ → Element) → (ℕ → Gauge) → ℕ → Bool
+gaugeFits n element gauge g =
+    (((ltb (elementBefore gauge g) (gauge g .element) && leb (gauge g .element) n) && notOnDam element (gauge g))
+    && inRange (gauge g .noise .0) 1 C)
     && curveFits (gauge g .curve)

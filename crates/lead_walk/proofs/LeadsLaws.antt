@@ -20,14 +20,17 @@ use Rattle.method.specs.declared.FiguresAnswer.{FiguresAnswer}
 use Rattle.method.specs.declared.FiguresAnswer.the-variants.{Accepted, Refused}
 use Rattle.method.specs.Figures.{figuresAnswer, FiguresFit}
 use Rattle.method.specs.Inflow.{joinedInflow}
-use Rattle.answer_space.specs.Places.{figuresAt, put, mostSum, FiguresBelow}
+use Rattle.elements.specs.Kinds.{dam}
+use Rattle.element_step.specs.ElementStep.{released}
+use Rattle.answer_space.specs.Places.{figuresAt, put, mostSum, FiguresBelow, PlacesReady}
 use Rattle.answer_space.proofs.PlacesLaws.{put-length, put-here, put-other}
 use Rattle.one_lead.specs.declared.ElementInput.{ElementInput}
 use Rattle.one_lead.specs.declared.Lead.{Lead}
 use Rattle.one_lead.specs.Leads.{leadStep, leadStepNumbers}
-use Rattle.one_lead.specs.Worked.{stepLead, LeadReady, LeadWorked}
+use Rattle.one_lead.specs.Worked.{stepLead, InputInRange, LeadReady, LeadWorked, DamWorked}
+use Rattle.one_lead.proofs.LeadLaws.{released-fits}
 use Rattle.lead_walk.specs.Leads.{figuresAfter, numbersAfter}
-use Rattle.lead_walk.specs.Worked.{Apart, drainedAt, LeadsDone, ElementWorked}
+use Rattle.lead_walk.specs.Worked.{Apart, drainedAt, LeadsDone, DamHeld, ElementWorked}
 
 -- a lead, as the code has it
 abbrev leadAt : ElementInput → ℕ → ℕ → ℕ → Lead
@@ -203,6 +206,55 @@ pub element-accepted :
 element-accepted c first here below m leads before after e h =
     let g = subst (λ (n : ℕ). LeadsDone c first here below n before after) e h in
     record { verdict = under-accepted tt _ (g .under); done = λ a. g }
+
+-- the leads of a dam
+module _
+    (c : ElementInput) (here below leads : ℕ) (before : List ℕ) (k : c .element .kind ≡ dam) (inRange : InputInRange c)
+    (apart : Apart here below leads) where
+  abbrev held : Figures
+  held = released (c .element) (c .own)
+
+  pub held-fits : FiguresFit held
+  held-fits = released-fits c (leadAt c here below 0) held before k inRange
+
+  -- no lead yet
+  pub dam-begin : DamHeld c here below 0 before before
+  dam-begin = record { from = λ first fits. done-begin c first here below before fits }
+
+  -- one lead more
+  module _ (m : ℕ) (now : List ℕ) (h : DamHeld c here below m before now) (less : m < leads) where
+    -- its places
+    pub dam-places : 4 * (here + leads) ≤ length now → 4 * (below + leads) ≤ length now → FiguresBelow (figuresAt before (below + m)) mostSum → PlacesReady now (here + m) (below + m) held
+    dam-places hereRoom belowRoom small =
+        let d = h .from held held-fits in
+        record {
+          hereRoom = omega (arith, hereRoom, less);
+          belowRoom = omega (arith, belowRoom, less);
+          apart = places-apart c held here below before m leads now _ d refl less apart;
+          small = below-small c held here below before m leads now _ d refl less apart small;
+          fits = held-fits;
+        }
+
+    module _ (next : List ℕ) (w : DamWorked c (here + m) (below + m) now next) where
+      pub dam-again : 4 * (here + leads) ≤ length now → 4 * (below + leads) ≤ length now → DamHeld c here below (m + 1) before next
+      dam-again hereRoom belowRoom =
+          record {
+            from = λ first fits.
+                done-again c first here below before m leads now _ (h .from first fits) refl less apart _ next
+                (w .at _ _) _ refl hereRoom belowRoom;
+          }
+
+      pub dam-length : 4 * (here + leads) ≤ length now → 4 * (below + leads) ≤ length now → length next ≡ length now
+      dam-length hereRoom belowRoom =
+          next-length c held here below before m leads now _ (h .from held held-fits) refl less apart _ next
+          (w .at _ _) _ refl hereRoom belowRoom
+
+pub dam-done :
+    {c : ElementInput} {here below m leads : ℕ} {before after : List ℕ}
+    → m ≡ leads
+    → DamHeld c here below m before after
+    → DamHeld c here below leads before after
+dam-done {c} {here} {below} {m} {leads} {before} {after} e h = subst (λ (n : ℕ). DamHeld c here below n before after) e h
 
 -- a step is one lead, of number 0: what its code has worked out
 module _

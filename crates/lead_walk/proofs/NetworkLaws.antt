@@ -1,11 +1,9 @@
 -- The walk down the network, each element through all its leads: what the working space holds after i elements. A step is one lead.
 use Prim.Native.Nat.{ℕ, zero, suc, _+_, _*_, _≤_, _<_}
-use mathlib.Core.Bool.{Bool, true, false, cond}
 use mathlib.Core.List.{List}
 use mathlib.Core.Logic.{_≢_, ⊎-elim}
 use mathlib.Core.Path.{_≡_, refl, sym, ap, subst, _∙_}
 use native.Mathlib.Nat.{eq-or-lt-of-le}
-use native.Mathlib.Numerals.{add-one}
 use native.Mathlib.Omega.{arith}
 use Rattle.sizes.specs.Sizes.{mostElements}
 use Rattle.units.specs.Units.{C}
@@ -13,13 +11,10 @@ use Rattle.units.proofs.UnderLaws.{Under}
 use Rattle.method.specs.declared.Figures.{Figures}
 use Rattle.method.specs.Figures.{FiguresFit}
 use Rattle.method.specs.Inflow.{noInflow, joinedInflow}
-use Rattle.elements.specs.declared.Element.{Element}
-use Rattle.elements.specs.Kinds.{basin}
-use Rattle.elements.proofs.KindLaws.{kind-both}
 use Rattle.table.specs.Tables.{TableValues}
 use Rattle.record.specs.declared.Observation.{Observation}
-use Rattle.element_step.specs.ElementStep.{inflowOf, elementStep, elementNumbers}
-use Rattle.walk.specs.Walk.{drained, walked, gathered, newCell, outflow}
+use Rattle.element_step.specs.ElementStep.{elementNumbers}
+use Rattle.walk.specs.Walk.{drained, walked, newCell, outflow}
 use Rattle.walk.specs.Space.{Later, Turned, Held}
 use Rattle.walk.proofs.SpaceLaws.{held-begin, found, held-again, sum-small}
 use Rattle.network.specs.Step.{weightOf, networkDown, networkCell, networkOutflow, aboveOf, newFigures, networkNumbers}
@@ -27,9 +22,9 @@ use Rattle.network.proofs.NumbersLaws.{cellNumbers, element-part, numbers-none,
 use Rattle.answer_space.specs.Places.{figuresAt, mostSum, FiguresBelow}
 use Rattle.answer_space.proofs.PlacesLaws.{same-element}
 use Rattle.one_lead.specs.declared.ElementInput.{ElementInput}
-use Rattle.one_lead.specs.Leads.{ownAt, leadStep, leadStepNumbers}
+use Rattle.one_lead.specs.Leads.{leadOwn, leadStep, leadStepNumbers}
 use Rattle.lead_walk.specs.Leads.{figuresAfter, numbersAfter}
-use Rattle.lead_walk.specs.Worked.{Apart, drainedAt, LeadsDone}
+use Rattle.lead_walk.specs.Worked.{drainedAt, LeadsDone}
 use Rattle.lead_walk.proofs.LeadsLaws.{part-of, all-parts}
 
 -- ---- how large a sum is
@@ -56,23 +51,6 @@ below-most f b m h l =
       variance = omega (arith, h .variance);
       varianceMargin = omega (arith, h .varianceMargin);
     }
-
--- ---- what the code takes of an element
-
--- only a basin's own inflow is read
-inflow-same : (kind : ℕ) (own own′ above : Figures) → (kind ≡ basin → own ≡ own′) → inflowOf kind own above ≡ inflowOf kind own′ above
-unfolding inflowOf
-inflow-same kind own own′ above h = kind-both (λ (x y : Figures). x ≡ y) kind h (λ _. refl) (λ _ _. refl)
-
-module _ (H H′ : ℕ) (e e′ : Element) (own own′ : Figures) (o o′ : Observation) (above old : Figures)
-    (same-weight : H ≡ H′) (same-one : e ≡ e′) (same-observation : o ≡ o′) (same-own : e′ .kind ≡ basin → own ≡ own′) where
-  step-read : elementStep H e own o above old ≡ elementStep H′ e′ own′ o′ above old
-  unfolding elementStep
-  step-read = rw (same-weight, same-one, same-observation, inflow-same (e′ .kind) own own′ above same-own)
-
-  numbers-read : elementNumbers H e own o above old ≡ elementNumbers H′ e′ own′ o′ above old
-  unfolding elementNumbers
-  numbers-read = rw (same-weight, same-one, same-observation, inflow-same (e′ .kind) own own′ above same-own)
 
 -- ---- the walk
 
@@ -148,7 +126,7 @@ module _ (t : TableValues) (own : ℕ → ℕ → Figures) (o : ℕ → Observat
     pub element : c .element ≡ t .element i
     pub weight : c .weight ≡ weightOf t i
     pub observation : c .observation ≡ o i
-    pub inflow : (l : ℕ) → l < leads → t .element i .kind ≡ basin → ownAt c (c .«first_lead» + l) ≡ own l i
+    pub ownPart : (l : ℕ) → l < leads → leadOwn c (c .«first_lead» + l) ≡ own l i
 
   module _ (c : ElementInput) (i leads : ℕ) (of : InputOf c i leads) where
     step-same :
@@ -157,8 +135,7 @@ module _ (t : TableValues) (own : ℕ → ℕ → Figures) (o : ℕ → Observat
         → (above before : Figures)
         → leadStep c (c .«first_lead» + l) above before ≡ networkCell t (own l) o i above before
     unfolding leadStep networkCell
-    step-same l m above before =
-        step-read _ _ _ _ _ _ _ _ above before (of .weight) (of .element) (of .observation) (of .inflow l m)
+    step-same l m above before = rw (of .ownPart l m, of .weight, of .element, of .observation)
 
     numbers-same :
         (l : ℕ)
@@ -167,8 +144,7 @@ module _ (t : TableValues) (own : ℕ → ℕ → Figures) (o : ℕ → Observat
         → leadStepNumbers c (c .«first_lead» + l) above before
         ≡ elementNumbers (weightOf t i) (t .element i) (own l i) (o i) above before
     unfolding leadStepNumbers
-    numbers-same l m above before =
-        numbers-read _ _ _ _ _ _ _ _ above before (of .weight) (of .element) (of .observation) (of .inflow l m)
+    numbers-same l m above before = rw (of .ownPart l m, of .weight, of .element, of .observation)
 
     module _
         (again : (l j : ℕ) → old (suc l) j ≡ newAt l j) (first : Figures) (is : first ≡ old 0 i) (before : List ℕ)

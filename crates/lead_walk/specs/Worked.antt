@@ -23,15 +23,19 @@ use Rattle.lead_walk.specs.Leads.{figuresAfter, numbersAfter}
 abbrev pub Apart : ℕ → ℕ → ℕ → Type 0
 Apart here below leads = (here + leads ≤ below) ⊎ (below + leads ≤ here)
 
-pub record LeadsReady (c : ElementInput) (first : Figures) (here below leads : ℕ) (space : List ℕ) : Type 0 where
-  pub inRange : InputInRange c
-  pub nothing : c .observation ≡ Nothing
-  pub fits : FiguresFit first
+-- the places of the leads of an element and of the one below it
+pub record LeadPlaces (here below leads : ℕ) (space : List ℕ) : Type 0 where
   pub short : leads ≤ mostLeads
   pub hereRoom : 4 * (here + leads) ≤ length space
   pub belowRoom : 4 * (below + leads) ≤ length space
   pub apart : Apart here below leads
   pub small : (l : ℕ) → l < leads → FiguresBelow (figuresAt space (below + l)) mostSum
+
+pub record LeadsReady (c : ElementInput) (first : Figures) (here below leads : ℕ) (space : List ℕ) : Type 0 where
+  pub inRange : InputInRange c
+  pub nothing : c .observation ≡ Nothing
+  pub fits : FiguresFit first
+  pub places : LeadPlaces here below leads space
 
 -- what drains into the element at each lead
 abbrev pub drainedAt : List ℕ → ℕ → ℕ → Figures
@@ -52,6 +56,10 @@ pub record LeadsDone (c : ElementInput) (first : Figures) (here below m : ℕ) (
       → ((l : ℕ) → l < m → p ≢ here + l)
       → ((l : ℕ) → l < m → p ≢ below + l)
       → figuresAt after p ≡ figuresAt before p
+
+-- so with the leads of a dam, whatever it had before them
+pub record DamHeld (c : ElementInput) (here below m : ℕ) (before after : List ℕ) : Type 0 where
+  pub from : (first : Figures) → FiguresFit first → LeadsDone c first here below m before after
 
 -- all leads of the element, or 16
 pub record ElementWorked (r : Verdict) (c : ElementInput) (first : Figures) (here below leads : ℕ) (before after : List ℕ) : Type 0 where

@@ -1,16 +1,21 @@
 // One element through the leads of a forecast.
-ghost use Rattle.lead_walk.specs.Worked.{LeadsReady, ElementWorked};
+ghost use mathlib.Core.Logic.{_≢_};
+ghost use mathlib.Core.Path.{_≡_};
+ghost use Rattle.elements.specs.Kinds.{dam};
+ghost use Rattle.one_lead.specs.Worked.{InputInRange};
+ghost use Rattle.lead_walk.specs.Worked.{LeadPlaces, LeadsReady, DamHeld, ElementWorked};
 use method::Figures;
 use method::FiguresAnswer;
 use one_lead::ElementInput;
 use one_lead::Lead;
+use one_lead::hold_lead;
 use one_lead::work_lead;
 use refusal::Refusal;
 use refusal::Verdict;
 
-// All leads of an element, from its figures before the first: its own places and those of the element below begin at `here` and `below`.
-// 16 where a number passes the ceiling.
-pub fn work_element(
+// All leads of an element that stores water, from its figures before the first: its own places and those of the element below begin at
+// `here` and `below`. 16 where a number passes the ceiling.
+fn store_element(
     input: ElementInput,
     first: Figures,
     here: usize,
@@ -18,7 +23,7 @@ pub fn work_element(
     leads: usize,
     space: &mut [u64],
 ) -> Verdict
-    requires { ⌜ LeadsReady input first here below leads (now space) ⌝ }
+    requires { ⌜ LeadsReady input first here below leads (now space) × (input .element .kind ≢ dam) ⌝ }
     ensures { λ r. ⌜ ElementWorked r input first here below leads (now (space .entry)) (now (space .exit)) ⌝ }
 {
     let first_number = input.first_lead;
@@ -35,4 +40,34 @@ pub fn work_element(
         old = new;
     }
     Verdict::Accepted
+}
+
+// All leads of a dam: it lets out the same at each.
+fn hold_dam(input: ElementInput, here: usize, below: usize, leads: usize, space: &mut [u64])
+    requires { ⌜ InputInRange input × (LeadPlaces here below leads (now space) × (input .element .kind ≡ dam)) ⌝ }
+    ensures { λ _. ⌜ DamHeld input here below leads (now (space .entry)) (now (space .exit)) ⌝ }
+{
+    for k in 0..leads {
+        hold_lead(input, here + k, below + k, &mut *space);
+    }
+}
+
+// All leads of an element. (A dam's are apart from the others, so that the loop over these stays small.)
+pub fn work_element(
+    input: ElementInput,
+    first: Figures,
+    here: usize,
+    below: usize,
+    leads: usize,
+    space: &mut [u64],
+) -> Verdict
+    requires { ⌜ LeadsReady input first here below leads (now space) ⌝ }
+    ensures { λ r. ⌜ ElementWorked r input first here below leads (now (space .entry)) (now (space .exit)) ⌝ }
+{
+    let element = input.element;
+    if element.kind == elements::DAM {
+        hold_dam(input, here, below, leads, space);
+        return Verdict::Accepted;
+    }
+    store_element(input, first, here, below, leads, space)
 }

@@ -49,10 +49,10 @@ pub given :
     → Given bytes (counts .elements) (counts .leads) (counts .step) weight s
 given p h =
     record {
-      table = p .table;
-      elements = p .held .elements;
-      leads = p .held .leads;
-      step = p .held .step;
+      table = p .counted .table;
+      elements = p .counted .held .elements;
+      leads = p .counted .held .leads;
+      step = p .counted .held .step;
       weights = p .weights;
       state = state-bounds _ _ h;
     }

@@ -1,6 +1,7 @@
 -- The four figures of an element or of an inflow: discharge and variance, each with its margin.
 use Prim.{Unit}
-use Prim.Native.Nat.{_≤_}
+use Prim.Native.Nat.{ℕ, _≤_}
+use mathlib.Core.List.{List, [], _∷_}
 use Rattle.refusal.specs.Refusals.{number}
 use Rattle.refusal.specs.Answers.{Answer, accepted, refused}
 use Rattle.units.specs.Units.{C, grains, thousandths}
@@ -24,6 +25,10 @@ figures q v =
       variance = thousandths (v .value);
       «variance_margin» = thousandths (v .margin);
     }
+
+-- all four, as numbers
+abbrev pub figureNumbers : Figures → List ℕ
+figureNumbers f = f .discharge .0 ∷ f .«discharge_margin» .0 ∷ f .variance .0 ∷ f .«variance_margin» .0 ∷ []
 
 -- the number and the values of each case of an answer
 abbrev pub figuresAnswer : FiguresAnswer → Answer Figures

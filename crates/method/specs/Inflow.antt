@@ -1,13 +1,13 @@
 -- Document 01, One step and Forecast: what flows into an element, and rule 16 for it.
 use Prim.Native.Nat.{ℕ, _+_, _*_, _/_}
 use mathlib.Core.Bool.{cond}
-use mathlib.Core.List.{List, [], _∷_}
+use mathlib.Core.List.{List}
 use lib.Dec.{eqb}
 use Rattle.refusal.specs.Answers.{Answer}
 use Rattle.units.specs.Ceiling.{underCeiling}
 use Rattle.method.specs.declared.Figures.{Figures}
 use Rattle.weighting.specs.Estimates.{estimate}
-use Rattle.method.specs.Figures.{figures}
+use Rattle.method.specs.Figures.{figures, figureNumbers}
 
 -- One step: "Basin inflow: [5 × rain × area × f / 18], margin 1, inflow variance 0 with margin 0."
 unfoldable pub stepInflow : ℕ → ℕ → ℕ → Figures
@@ -34,7 +34,7 @@ forecastInflow s c area f lead G = figures (estimate (meanRainInflow s c area f)
 
 -- rule 16: "Some inflow, inflow variance .. or the margin of any of these .. would pass C"
 unfoldable pub inflowNumbers : Figures → List ℕ
-inflowNumbers i = i .discharge .0 ∷ i .«discharge_margin» .0 ∷ i .variance .0 ∷ i .«variance_margin» .0 ∷ []
+inflowNumbers i = figureNumbers i
 
 unfoldable pub inflowAnswer : Figures → Answer Figures
 inflowAnswer i = underCeiling (inflowNumbers i) i

@@ -1,4 +1,4 @@
--- The state after a step: what its names read.
+-- The weights of the elements; the state after a step: what its names read.
 use Prim.Native.Nat.{ℕ, _+_, _≤_, _<_}
 use mathlib.Core.Path.{_≡_, refl, ap, _∙_}
 use native.Mathlib.Omega.{arith}
@@ -6,13 +6,32 @@ use lib.ListN.{length, length-set}
 use lib.Seq.{getD-set-same, getD-set-other}
 use Rattle.sizes.specs.Sizes.{mostElements, stateNumbers}
 use Rattle.method.specs.declared.Figures.{Figures}
-use Rattle.elements.specs.Kinds.{basin}
+use Rattle.units.specs.Units.{S}
+use Rattle.weighting.proofs.WeightLaws.{weight-most}
+use Rattle.elements.specs.Kinds.{basin, dam}
+use Rattle.elements.proofs.KindLaws.{by-dam, kind-cases}
 use Rattle.table.specs.Tables.{TableValues}
+use Rattle.record.specs.declared.Observation.{Observation}
 use Rattle.record.specs.Records.{Input}
 use Rattle.state.specs.States.{State, ElementState, elementsOf, stepsOf, figuresOf, rainsOf, placeOf, changed}
 use Rattle.state.proofs.StateLaws.{PutsPlaces, puts-each, put-place-figures, put-place-rains, changed-length, changed-elements, head-kept}
+use Rattle.walk.specs.Walk.{newCell}
+use Rattle.element_step.specs.ElementStep.{elementStep}
 use Rattle.element_step.specs.Rains.{shiftedRains}
-use Rattle.network.specs.Step.{stepFigures, stepPut, stepped}
+use Rattle.network.specs.Step.{weightOf, networkCell, newFigures, stepFigures, stepPut, stepped}
+
+pub weight-of-most : (t : TableValues) (i : ℕ) → weightOf t i ≤ S
+unfolding weightOf
+weight-of-most t i =
+    kind-cases (λ (w : ℕ). w ≤ S) (t .element i .kind) (λ _. weight-most _ _) (λ _. weight-most _ _) (λ _. omega arith) (λ _ _ _. omega arith)
+
+-- a dam lets out what it has of its own
+pub dam-lets-out :
+    (t : TableValues) (own : ℕ → Figures) (o : ℕ → Observation) (old : ℕ → Figures) (i : ℕ)
+    → t .element i .kind ≡ dam
+    → newFigures t own o old i ≡ own i
+unfolding newFigures newCell networkCell elementStep
+dam-lets-out t own o old i k = by-dam (t .element i .kind) _ _ _ _ k
 
 module _ (t : TableValues) (input : ℕ → Input) (s : State) where
   pub step-puts :

@@ -1,4 +1,4 @@
--- Document 01, Forecast: "From the state, which is kept, leads 1 to L are steps without readings."
+-- Document 01, Forecast: "From the state, which is kept, leads 1 to L are steps without readings.", and document 02, M-100.
 use Prim.Native.Nat.{ℕ, zero, suc, _+_, min}
 use mathlib.Core.List.{List, [], _++_}
 use Rattle.method.specs.declared.Figures.{Figures}
@@ -6,6 +6,7 @@ use Rattle.method.specs.Inflow.{forecastInflow}
 use Rattle.table.specs.Tables.{TableValues}
 use Rattle.state.specs.declared.Rains.{Rains}
 use Rattle.state.specs.States.{State, stepsOf, figuresOf, rainsOf}
+use Rattle.element_step.specs.ElementStep.{released, ownOf}
 use Rattle.network.specs.Step.{newFigures, networkNumbers, noObservation}
 
 -- "c is the smaller of 3 and the step count"
@@ -20,10 +21,15 @@ rainSum r (suc (suc zero)) = r .first + r .second
 rainSum r (suc (suc (suc c))) = r .first + r .second + r .third
 
 -- "Basin inflow is [5 × s × area × f / (18 × c)] .. Its variance at the first lead is G, at the second 2 × G and so on"
-unfoldable pub forecastOwn : TableValues → State → ℕ → ℕ → Figures
-forecastOwn t s lead i =
+unfoldable pub leadInflow : TableValues → State → ℕ → ℕ → Figures
+leadInflow t s lead i =
     let c : ℕ = rainCount (stepsOf s) in
     forecastInflow (rainSum (rainsOf s i) c) c (t .element i .area) (t .element i .runoff) lead (t .element i .«rain_noise» .0)
+
+-- M-100: "The state's discharge is held through leads 1 to L, margin 0"
+unfoldable pub forecastOwn : TableValues → State → ℕ → ℕ → Figures
+forecastOwn t s lead i =
+    let e = t .element i in ownOf (e .kind) (leadInflow t s lead i) (released e (figuresOf s i .discharge .0))
 
 -- the figures of each element at a lead; lead 0 is the state itself
 unfoldable pub leadFigures : TableValues → State → ℕ → ℕ → Figures

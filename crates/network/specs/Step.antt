@@ -1,23 +1,24 @@
--- Document 01, One step, element 1 to N.
+-- Document 01, One step, element 1 to N, and document 02, M-100.
 use Prim.Native.Nat.{ℕ, zero, suc, _+_}
 use mathlib.Core.List.{List, [], _++_}
 use Rattle.weighting.specs.Weight.{weight}
 use Rattle.method.specs.declared.Figures.{Figures}
 use Rattle.method.specs.Inflow.{stepInflow, noInflow, joinedInflow}
+use Rattle.elements.specs.Kinds.{byKind}
 use Rattle.table.specs.Tables.{TableValues}
 use Rattle.record.specs.declared.Observation.{Observation}
 use Rattle.record.specs.declared.Observation.the-variants.{Nothing}
 use Rattle.record.specs.Records.{Input}
 use Rattle.state.specs.States.{State, stepsOf, figuresOf, rainsOf, putSteps, putPlace, changed}
 use Rattle.walk.specs.Walk.{gathered, newCell}
-use Rattle.element_step.specs.ElementStep.{elementStep, elementNumbers}
+use Rattle.element_step.specs.ElementStep.{released, ownOf, elementStep, elementNumbers}
 use Rattle.element_step.specs.Rains.{shiftedRains}
 
--- H of element i
+-- H of element i; a dam has none
 unfoldable pub weightOf : TableValues → ℕ → ℕ
-weightOf t i = weight (t .step) (t .element i .lag)
+weightOf t i = byKind (t .element i .kind) (weight (t .step) (t .element i .lag)) (weight (t .step) (t .element i .lag)) 0 0
 
--- the network at one step or lead, from the own inflow, the observation and the old figures of each element
+-- the network at one step or lead, from what each element has of its own, its observation and its old figures
 unfoldable pub networkDown : TableValues → ℕ → ℕ
 networkDown t i = t .element i .down
 
@@ -42,9 +43,11 @@ module _ (t : TableValues) (own : ℕ → Figures) (o : ℕ → Observation) (ol
   networkNumbers (suc i) =
       networkNumbers i ++ elementNumbers (weightOf t i) (t .element i) (own i) (o i) (aboveOf i) (old i)
 
--- "Basin inflow: [5 × rain × area × f / 18]"
+-- "Basin inflow: [5 × rain × area × f / 18]"; M-100: "[a dam's] discharge is the release"
 unfoldable pub stepOwn : TableValues → (ℕ → Input) → ℕ → Figures
-stepOwn t input i = stepInflow (input i .rain) (t .element i .area) (t .element i .runoff)
+stepOwn t input i =
+    let e = t .element i in
+    ownOf (e .kind) (stepInflow (input i .rain) (e .area) (e .runoff)) (released e (input i .release))
 
 unfoldable pub observedIn : (ℕ → Input) → ℕ → Observation
 observedIn input i = input i .observation

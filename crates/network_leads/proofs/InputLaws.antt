@@ -4,32 +4,32 @@ use mathlib.Core.List.{List}
 use mathlib.Core.Path.{_≡_, refl, sym, ap, _∙_}
 use native.Mathlib.Omega.{arith}
 use Rattle.units.specs.Units.{S}
+use Rattle.method.specs.declared.Figures.{Figures}
 use Rattle.method.specs.Inflow.{meanRainInflow, forecastInflow}
-use Rattle.method.proofs.InflowLaws.{no-rain-inflow}
 use Rattle.inflow.specs.Basin.{basinInflow}
 use Rattle.elements.specs.declared.Element.{Element}
 use Rattle.elements.specs.Elements.{elementAt}
 use Rattle.elements.specs.Kinds.{basin}
+use Rattle.elements.proofs.KindLaws.{by-basin, by-dam, kind-both}
 use Rattle.table.specs.Tables.{TableValues}
 use Rattle.table.specs.Bounds.{AcceptedTable}
 use Rattle.table.specs.InUse.{tableIn}
 use Rattle.table.proofs.InUseLaws.{element-read}
 use Rattle.table.proofs.HeldLaws.{element-bounds}
 use Rattle.record.specs.Decoded.{ObservationFits}
-use Rattle.state.specs.declared.Rains.{Rains}
-use Rattle.state.specs.States.{State, stepsOf, rainsOf}
+use Rattle.state.specs.States.{State, stepsOf, figuresOf, rainsOf}
 use Rattle.state.specs.Bounds.{RainsUnder, StateBounds}
 use Rattle.element_step.specs.Bounds.{ElementInRange}
 use Rattle.network.specs.Step.{weightOf, noObservation}
-use Rattle.network.specs.Forecast.{rainCount, forecastOwn, leadFigures}
-use Rattle.network.proofs.NumbersLaws.{leadOwn}
+use Rattle.network.specs.Forecast.{rainCount, rainSum, leadInflow, forecastOwn, leadFigures}
+use Rattle.network.proofs.NumbersLaws as network-leads
 use Rattle.one_lead.specs.declared.ElementInput.{ElementInput}
-use Rattle.one_lead.specs.Leads.{ownAt}
+use Rattle.one_lead.specs.Leads.{leadOwn}
+use Rattle.element_step.specs.ElementStep.{ownOf}
+use Rattle.element_step.specs.Answers.{ownAt}
 use Rattle.one_lead.specs.Worked.{InputInRange}
 use Rattle.lead_walk.proofs.NetworkLaws.{InputOf}
-use Rattle.rain_sums.specs.Sums.{sumOf}
-use Rattle.rain_sums.proofs.RainLaws.{sum-basin}
-use Rattle.network_leads.specs.Inputs.{inputOf, leadInput}
+use Rattle.network_leads.specs.Inputs.{inputOf, ownNumber, leadInput}
 
 -- ---- an element in use
 
@@ -49,39 +49,51 @@ module _ (bytes : List ℕ) (t : AcceptedTable bytes) {i : ℕ} (l : i < tableIn
   basin-rains s h is k =
       h .rains i l (ap (λ (x : Element). x .kind) (element-read bytes i l) ∙ (sym is ∙ k))
 
-  pub input-in-range : (weight count : ℕ) (rains : Rains) → weight ≤ S → InputInRange (leadInput (elementAt bytes i) weight count rains)
-  unfolding leadInput ObservationFits
-  input-in-range weight count rains few =
-      record { element = element-in-range; weight = few; firstLead = omega arith; observation = tt }
+  pub input-in-range :
+      (weight count : ℕ) (s : State) → weight ≤ S → StateBounds (tableIn bytes) s → InputInRange (leadInput (elementAt bytes i) weight count s i)
+  unfolding leadInput ownNumber ObservationFits
+  input-in-range weight count s few h =
+      record {
+        element = element-in-range;
+        weight = few;
+        firstLead = omega arith;
+        release = λ k. rw (by-dam (elementAt bytes i .kind) _ 0 (figuresOf s i .discharge .0) 0 k) (h .figures i l .discharge);
+        observation = tt;
+      }
 
--- what the code makes of it
-module _
-    (e : Element) (kind weight count : ℕ) (rains : Rains) (r : ElementInput) {read : Element} (is : read ≡ e) (k : kind ≡ e .kind) where
-  -- of a sum of rains
-  pub input-made :
-      {sum inflow : ℕ}
-      → sum ≡ sumOf kind rains count
-      → inflow ≡ meanRainInflow sum count (read .area) (read .runoff)
-      → r ≡ inputOf read weight inflow
-      → r ≡ leadInput e weight count rains
-  unfolding leadInput
-  input-made a b made = made ∙ rw (b, a, k, is)
-
-  -- where none is read
-  pub input-dry : sumOf kind rains count ≡ 0 → r ≡ inputOf read weight 0 → r ≡ leadInput e weight count rains
-  input-dry none made = input-made (sym none) (sym (no-rain-inflow count (read .area) (read .runoff))) made
+-- what the code makes of it, of whatever kind
+pub input-made :
+    (e : Element) (weight count : ℕ) (s : State) (i : ℕ) {read : Element} {own : ℕ} {r : ElementInput}
+    → read ≡ e
+    → own ≡ ownNumber e count s i
+    → r ≡ inputOf read weight own
+    → r ≡ leadInput e weight count s i
+unfolding leadInput
+input-made e weight count s i is n made = made ∙ rw (n, is)
 
 -- ---- the element as the network has it
 
--- a basin's own inflow at each lead
+rain-held :
+    (t : TableValues) (s : State) (i l count : ℕ)
+    → count ≡ rainCount (stepsOf s)
+    → basinInflow (meanRainInflow (rainSum (rainsOf s i) count) count (t .element i .area) (t .element i .runoff)) (1 + l) (t .element i .«rain_noise» .0)
+    ≡ leadInflow t s (suc l) i
+unfolding basinInflow leadInflow forecastInflow
+rain-held t s i l count few = let n : 1 + l ≡ suc l = omega arith in rw (n, few)
+
+-- what it has of its own at each lead
 own-held :
     (t : TableValues) (s : State) (i l weight count : ℕ)
     → count ≡ rainCount (stepsOf s)
-    → t .element i .kind ≡ basin
-    → ownAt (leadInput (t .element i) weight count (rainsOf s i)) (1 + l) ≡ forecastOwn t s (suc l) i
-unfolding leadInput ownAt basinInflow forecastOwn forecastInflow
-own-held t s i l weight count few k =
-    let n : 1 + l ≡ suc l = omega arith in rw (n, sum-basin (t .element i .kind) (rainsOf s i) count k, few)
+    → leadOwn (leadInput (t .element i) weight count s i) (1 + l) ≡ forecastOwn t s (suc l) i
+unfolding leadInput ownNumber ownAt forecastOwn ownOf
+own-held t s i l weight count few =
+    let e = t .element i in
+    let rain = meanRainInflow (rainSum (rainsOf s i) count) count (e .area) (e .runoff) in
+    let held = figuresOf s i .discharge .0 in
+    kind-both (λ (x y : Figures). x ≡ y) (e .kind)
+    (λ k. rw (by-basin (e .kind) rain 0 held 0 k) (rain-held t s i l count few)) (λ _. refl)
+    (λ k. rw (by-dam (e .kind) rain 0 held 0 k)) (λ _ _ _. refl)
 
 module _ (bytes : List ℕ) (s : State) (i : ℕ) (used : i < tableIn bytes .elements) where
   abbrev t : TableValues
@@ -91,12 +103,12 @@ module _ (bytes : List ℕ) (s : State) (i : ℕ) (used : i < tableIn bytes .ele
       (weight count leads w : ℕ)
       → weight ≡ weightOf t i
       → count ≡ rainCount (stepsOf s)
-      → InputOf t (leadOwn t s) noObservation (leadFigures t s) w 1 (leadInput (elementAt bytes i) weight count (rainsOf s i)) i leads
+      → InputOf t (network-leads.leadOwn t s) noObservation (leadFigures t s) w 1 (leadInput (elementAt bytes i) weight count s i) i leads
   unfolding leadInput noObservation
   input-of weight count leads w is few =
       record {
         element = sym (element-read bytes i used);
         weight = is;
         observation = refl;
-        inflow = λ l m k. rw (← element-read bytes i used) (own-held t s i l weight count few k);
+        ownPart = λ l m. rw (← element-read bytes i used) (own-held t s i l weight count few);
       }

@@ -22,7 +22,7 @@ use Rattle.table.specs.Tables.{TableValues}
 use Rattle.table.specs.InUse.{tableIn}
 use Rattle.table.proofs.InUseLaws.{element-read}
 use Rattle.table.proofs.HeldLaws.{element-bounds}
-use Rattle.state.specs.States.{State, stepsOf, figuresOf, rainsOf}
+use Rattle.state.specs.States.{State, stepsOf, figuresOf}
 use Rattle.network.specs.Step.{weightOf, noObservation}
 use Rattle.network.specs.Forecast.{rainCount, leadFigures}
 use Rattle.answer_space.specs.Places.{put}
@@ -47,7 +47,7 @@ pub next-fits : (p : ℕ) → p ≤ forecastSpace → Fits w64 (p + 1)
 next-fits p l = omega arith
 
 -- what the input says of the element
-made-element : (e : Element) (weight count : ℕ) (s : State) (i : ℕ) (c : ElementInput) → c ≡ leadInput e weight count (rainsOf s i) → c .element ≡ e
+made-element : (e : Element) (weight count : ℕ) (s : State) (i : ℕ) (c : ElementInput) → c ≡ leadInput e weight count s i → c .element ≡ e
 unfolding leadInput
 made-element e weight count s i c h = ap (λ (x : ElementInput). x .element) h
 
@@ -76,7 +76,7 @@ module _ {bytes : List ℕ} {n L T : ℕ} {weight : List ℕ} {s : State} (g : G
     pub placed : space ≡ put before ((i + 1) * w) f
     pub weighed : (H ≡ weightOf t i) × (H ≤ S)
     pub few : count ≡ rainCount (stepsOf s)
-    pub made : c ≡ leadInput (elementAt bytes i) H count (rainsOf s i)
+    pub made : c ≡ leadInput (elementAt bytes i) H count s i
 
   module _ {i : ℕ} {before : List ℕ} {f : Figures} {space : List ℕ} {H count : ℕ} {c : ElementInput} (h : Turn i before f space H count c) where
     abbrev used : i < t .elements
@@ -123,15 +123,17 @@ module _ {bytes : List ℕ} {n L T : ℕ} {weight : List ℕ} {s : State} (g : G
           nothing = of .observation;
           inRange =
               subst InputInRange (sym (h .made))
-              (input-in-range bytes (g .table) used _ _ _ (h .weighed .1));
+              (input-in-range bytes (g .table) used _ _ _ (h .weighed .1) (g .state));
           fits = subst FiguresFit (sym (h .first)) (g .state .figures i used);
-          short = few-leads;
-          hereRoom = omega (arith, now-there (i + 1) (omega (arith, used)));
-          belowRoom = omega (arith, now-there (c .element .down) (bounds .down));
-          apart = places-apart L i _ (bounds .later);
-          small =
-              worked-small t s L i space held c of f is
-              (omega (arith, used, g .table .bounds .elementsMost)) _ (bounds .later);
+          places = record {
+            short = few-leads;
+            hereRoom = omega (arith, now-there (i + 1) (omega (arith, used)));
+            belowRoom = omega (arith, now-there (c .element .down) (bounds .down));
+            apart = places-apart L i _ (bounds .later);
+            small =
+                worked-small t s L i space held c of f is
+                (omega (arith, used, g .table .bounds .elementsMost)) _ (bounds .later);
+          };
         }
 
     module _ (v : Verdict) (after : List ℕ) (done : ElementWorked v c f ((i + 1) * w + 1) (c .element .down * w + 1) L space after) where

@@ -3,7 +3,6 @@
 ghost use mathlib.Core.Path.{_≡_};
 ghost use Rattle.elements.specs.Elements.{elementAt};
 ghost use Rattle.table.specs.InUse.{tableIn};
-ghost use Rattle.state.specs.States.{rainsOf};
 ghost use Rattle.network_leads.specs.Inputs.{InputReady, inputOf, leadInput};
 ghost use Rattle.network_leads.specs.Worked.{Given, Cleared, LeadsWorked};
 use answer_space::put_figures;
@@ -20,22 +19,24 @@ use record::Observation;
 use refusal::Refusal;
 use refusal::Verdict;
 use sizes::STATE_NUMBERS;
+use state::discharge_of;
 use state::figures_of;
 
-// What the leads of an element are worked out from: its weight, and the inflow that its last rains bring.
-fn input_of(element: Element, weight: u64, rain_inflow: u64) -> ElementInput
-    ensures { λ r. ⌜ r ≡ inputOf element weight «rain_inflow» ⌝ }
+// What the leads of an element are worked out from: its weight and its own number.
+fn input_of(element: Element, weight: u64, own: u64) -> ElementInput
+    ensures { λ r. ⌜ r ≡ inputOf element weight own ⌝ }
 {
     ElementInput {
         element,
         weight,
-        rain_inflow,
+        own,
         first_lead: 1,
         observation: Observation::Nothing,
     }
 }
 
-// The same of element i, counted from 0, of whose last rains there are `count`: only a basin's are read.
+// The same of element i, counted from 0, of whose last rains there are `count`: only a basin's are read. A dam goes on letting out the
+// discharge that the state holds.
 fn lead_input(
     table: &[u8],
     i: usize,
@@ -44,12 +45,12 @@ fn lead_input(
     state: &[u64; STATE_NUMBERS],
 ) -> ElementInput
     requires { ⌜ InputReady (now table) (now state) i count ⌝ }
-    ensures { λ r. ⌜ r ≡ leadInput (elementAt (now (table .entry)) i) weight count (rainsOf (now (state .entry)) i) ⌝ }
+    ensures { λ r. ⌜ r ≡ leadInput (elementAt (now (table .entry)) i) weight count (now (state .entry)) i ⌝ }
 {
     let kind = kind_at(table, i);
     match kind {
         elements::BASIN => {
-            let sum = sum_of(kind, state, i, count);
+            let sum = sum_of(state, i, count);
             let element = element_at(table, i);
             input_of(
                 element,
@@ -58,6 +59,10 @@ fn lead_input(
             )
         }
         elements::REACH => input_of(element_at(table, i), weight, 0),
+        elements::DAM => {
+            let held = discharge_of(state, i);
+            input_of(element_at(table, i), weight, held.0)
+        }
         _ => input_of(element_at(table, i), weight, 0),
     }
 }

@@ -16,7 +16,7 @@ use Rattle.refusal.specs.declared.Verdict.{Verdict}
 use Rattle.refusal.specs.declared.Verdict.the-variants.{Accepted, Refused}
 use Rattle.refusal.specs.Verdicts.{verdictAnswer}
 use Rattle.refusal.proofs.RuleLaws.{not-both}
-use Rattle.units.specs.Units.{S}
+use Rattle.units.specs.Units.{C, S}
 use Rattle.units.proofs.CeilingLaws.{same-accepted, same-refused}
 use Rattle.units.proofs.UnderLaws.{Under, under-accepted, refused-whole}
 use Rattle.method.specs.declared.Figures.{Figures}
@@ -24,33 +24,38 @@ use Rattle.method.specs.Inflow.{noInflow, stepInflow, meanRainInflow}
 use Rattle.inflow.specs.Basin.{basinInflow}
 use Rattle.elements.specs.declared.Element.{Element}
 use Rattle.elements.specs.Elements.{elementAt}
-use Rattle.elements.specs.Kinds.{basin}
-use Rattle.elements.proofs.KindLaws.{by-basin}
+use Rattle.elements.specs.Kinds.{basin, dam, byKind, basinOf, damOf}
+use Rattle.elements.proofs.KindLaws.{by-basin, by-dam, kind-both}
 use Rattle.table.specs.Tables.{TableValues}
 use Rattle.table.specs.Bounds.{AcceptedTable}
 use Rattle.table.specs.InUse.{tableIn}
 use Rattle.table.proofs.InUseLaws.{element-read}
 use Rattle.table.proofs.HeldLaws.{element-bounds}
 use Rattle.record.specs.declared.Observation.{Observation}
-use Rattle.record.specs.Records.{rainAt, rainOf, inputRain, inputObservation, inputAt}
-use Rattle.table.specs.Basins.{basinsBefore}
+use Rattle.record.specs.Records.{rainAt, releaseAt, rainOf, releaseOf, inputRain, inputRelease, inputObservation, inputAt}
+use Rattle.table.specs.KindCounts.{basinsBefore, damsBefore, basinCount}
+use Rattle.table.proofs.CountLaws.{count-none, count-more, basins-most, dams-most}
 use Rattle.record.specs.Rules.{recordRules}
 use Rattle.record.specs.Decoded.{ObservationFits}
-use Rattle.record.proofs.RecordLaws.{rain-there, rain-read, inputs-fit}
+use Rattle.record.proofs.RecordLaws.{rain-there, release-there, rain-read, release-read, inputs-fit}
 use Rattle.state.specs.States.{State, figuresOf}
 use Rattle.state.specs.Bounds.{StateBounds}
 use Rattle.state.proofs.AnswerLaws.{answered-accepted, answered-refused}
+use Rattle.element_step.specs.ElementStep.{released, ownOf}
+use Rattle.element_step.specs.Answers.{ownAt}
 use Rattle.element_step.specs.Bounds.{ElementInRange}
 use Rattle.walk.specs.Space.{Later}
 use Rattle.network.specs.Step.{weightOf, networkDown, newFigures, networkNumbers, stepOwn, observedIn, stepFigures, stepped, stepNumbers}
 use Rattle.answer_space.specs.Places.{figuresAt, mostSum, FiguresBelow}
 use Rattle.one_lead.specs.declared.ElementInput.{ElementInput}
-use Rattle.one_lead.specs.Leads.{ownAt}
+use Rattle.one_lead.specs.Leads.{leadOwn}
 use Rattle.one_lead.specs.Worked.{stepLead, LeadReady}
 use Rattle.lead_walk.specs.Leads.{numbersAfter}
 use Rattle.lead_walk.specs.Worked.{drainedAt, LeadsDone, ElementWorked}
 use Rattle.lead_walk.proofs.NetworkLaws.{Walked, walked-begin, walked-at, walked-small, InputOf, element-under, walked-again}
-use Rattle.network_step.specs.Inputs.{inputOf, stepInput}
+use Rattle.network_step.specs.declared.Passed.{Passed}
+use Rattle.network_step.specs.declared.StepInput.{StepInput}
+use Rattle.network_step.specs.Inputs.{inputOf, ownNumber, passedBy, stepInput}
 use Rattle.network_step.specs.Held.{Cleared, StepWorked, underVerdict, Stepped}
 
 -- the inflow of a step is that of one rain at lead 0
@@ -58,6 +63,58 @@ inflow-same :
     (rain area f G lead : ℕ) → lead < 1 → basinInflow (meanRainInflow rain 1 area f) (0 + lead) G ≡ stepInflow rain area f
 unfolding basinInflow meanRainInflow stepInflow
 inflow-same rain area f G lead l = let e : 0 + lead ≡ 0 = omega arith in rw (e, zero-mul G)
+
+-- what an element has of its own, by the number that the code has and by what the record brings it
+own-same :
+    (e : Element) (rain release lead : ℕ)
+    → lead < 1
+    → ownAt e (byKind (e .kind) (meanRainInflow rain 1 (e .area) (e .runoff)) 0 release 0) (0 + lead)
+    ≡ ownOf (e .kind) (stepInflow (byKind (e .kind) rain 0 0 0) (e .area) (e .runoff)) (released e (byKind (e .kind) 0 0 release 0))
+unfolding ownAt ownOf
+own-same e rain release lead l =
+    kind-both (λ (x y : Figures). x ≡ y) (e .kind)
+    (λ k. rw (by-basin (e .kind) (meanRainInflow rain 1 (e .area) (e .runoff)) 0 release 0 k, by-basin (e .kind) rain 0 0 0 k) (inflow-same _ _ _ _ lead l))
+    (λ _. refl)
+    (λ k. rw (by-dam (e .kind) (meanRainInflow rain 1 (e .area) (e .runoff)) 0 release 0 k, by-dam (e .kind) 0 0 release 0 k))
+    (λ _ _ _. refl)
+
+-- what the code makes of element i, of whatever kind: its own number, and the counts
+module _ (table bytes : List ℕ) (i weight b : ℕ) (passed : Passed) (o : Observation) where
+  pub input-made :
+      {e : Element} {own basins dams : ℕ} {x : ElementInput} {r : StepInput} {kind : ℕ}
+      → kind ≡ elementAt table i .kind
+      → e ≡ elementAt table i
+      → own ≡ ownNumber (elementAt table i) bytes b passed
+      → x ≡ inputOf e weight own o
+      → r ≡ record { input = x; passed = record { basins = basins; dams = dams } }
+      → basins ≡ passed .basins + basinOf kind
+      → dams ≡ passed .dams + damOf kind
+      → r ≡ stepInput table i weight bytes b passed o
+  unfolding stepInput passedBy
+  input-made k is n x r c d = r ∙ rw (x, n, is, c, d, k)
+
+-- the basins and dams that a step has come past before element i
+pub record PassedBefore (t : TableValues) (i : ℕ) (passed : Passed) : Type 0 where
+  pub basins : passed .basins ≡ basinsBefore t i
+  pub dams : passed .dams ≡ damsBefore t i
+
+module _ (t : TableValues) where
+  pub passed-none : PassedBefore t 0 (record { basins = 0; dams = 0 })
+  passed-none = record { basins = count-none basinOf t; dams = count-none damOf t }
+
+  pub passed-more :
+      (i : ℕ) {kind : ℕ} {passed next : Passed}
+      → PassedBefore t i passed
+      → kind ≡ t .element i .kind
+      → next ≡ passedBy kind passed
+      → PassedBefore t (i + 1) next
+  unfolding passedBy
+  passed-more i h k e =
+      rw e
+      (record { basins = count-more basinOf t i (h .basins) refl k; dams = count-more damOf t i (h .dams) refl k })
+
+  pub passed-few : (i : ℕ) {passed : Passed} → PassedBefore t i passed → (passed .basins ≤ i) × (passed .dams ≤ i)
+  passed-few i h = (omega (arith, h .basins, basins-most t i), omega (arith, h .dams, dams-most t i))
 
 -- numbers that are all 0
 zero-at : (n k : ℕ) → _≡_ {A = ℕ} (getD (replicate n 0) k 0) 0
@@ -115,19 +172,42 @@ module _ (table bytes : List ℕ) (s : State) where
   kind-is : (i : ℕ) → i < t .elements → elementAt table i .kind ≡ t .element i .kind
   kind-is i l = ap (λ (e : Element). e .kind) (sym (element-read table i l))
 
-  pub rain-is : (i : ℕ) {b : ℕ} → i < t .elements → b ≡ basinsBefore t i → rainOf bytes (elementAt table i .kind) b ≡ inputRain t bytes i
+  rain-is : (i : ℕ) {k : ℕ} → i < t .elements → k ≡ basinsBefore t i → rainOf bytes (elementAt table i .kind) k ≡ inputRain t bytes i
   rain-is i l counted = rain-read t bytes i (kind-is i l) counted refl
+
+  release-is :
+      (i : ℕ) {b k : ℕ}
+      → i < t .elements
+      → b ≡ basinCount t
+      → k ≡ damsBefore t i
+      → releaseOf bytes b (elementAt table i .kind) k ≡ inputRelease t bytes i
+  release-is i l all counted = release-read t bytes i (kind-is i l) all counted refl
 
   -- what the record brings it is in its ranges
   module _ (accepts : AcceptedTable table) (kept : recordRules {A = Unit} t bytes (accepted tt) ≡ accepted tt) (i : ℕ) (l : i < t .elements) where
-    pub rain-most : {b : ℕ} → b ≡ basinsBefore t i → elementAt table i .kind ≡ basin → rainAt bytes b ≤ 3000
+    pub rain-most : {n : ℕ} → n ≡ basinsBefore t i → elementAt table i .kind ≡ basin → rainAt bytes n ≤ 3000
     unfolding inputAt rainOf
-    rain-most {b} counted k =
-        let fits : rainOf bytes (elementAt table i .kind) b ≤ 3000 = rw (rain-is i l counted) (inputs-fit t bytes (accepts .bounds) kept i l .rain) in
-        rw (by-basin (elementAt table i .kind) (rainAt bytes b) 0 0 k) at fits
+    rain-most {n} counted k =
+        let fits : rainOf bytes (elementAt table i .kind) n ≤ 3000 = rw (rain-is i l counted) (inputs-fit t bytes (accepts .bounds) kept i l .rain) in
+        rw (by-basin (elementAt table i .kind) (rainAt bytes n) 0 0 0 k) at fits
 
-    pub rain-room : {b : ℕ} → b ≡ basinsBefore t i → elementAt table i .kind ≡ basin → 2 * b + 5 ≤ length bytes
+    pub rain-room : {n : ℕ} → n ≡ basinsBefore t i → elementAt table i .kind ≡ basin → 2 * n + 5 ≤ length bytes
     rain-room counted k = rain-there t bytes kept i l (kind-is i l) counted k
+
+    pub release-room : {b n : ℕ} → b ≡ basinCount t → n ≡ damsBefore t i → elementAt table i .kind ≡ dam → 2 * b + 4 * n + 7 ≤ length bytes
+    release-room all counted k = release-there t bytes kept i l (kind-is i l) all counted k
+
+    release-most :
+        {b : ℕ} (passed : Passed)
+        → b ≡ basinCount t
+        → passed .dams ≡ damsBefore t i
+        → elementAt table i .kind ≡ dam
+        → ownNumber (elementAt table i) bytes b passed ≤ C
+    unfolding inputAt releaseOf ownNumber
+    release-most {b} passed all counted k =
+        let fits : releaseOf bytes b (elementAt table i .kind) (passed .dams) ≤ C =
+        rw (release-is i l all counted) (inputs-fit t bytes (accepts .bounds) kept i l .release) in
+        rw (by-dam (elementAt table i .kind) _ 0 (releaseAt bytes b (passed .dams)) 0 k) (rw (by-dam (elementAt table i .kind) 0 0 (releaseAt bytes b (passed .dams)) 0 k) at fits)
 
     observation-fits : {seen : Observation} → seen ≡ inputObservation t bytes i (t .gauges) → ObservationFits seen
     unfolding inputAt
@@ -154,21 +234,15 @@ module _ (table bytes : List ℕ) (s : State) where
 
   -- element i, as the code takes it
   module _
-      (i : ℕ) (l : i < t .elements) {weight b : ℕ} {seen : Observation} (w : weight ≡ weightOf t i) (counted : b ≡ basinsBefore t i)
-      (observed : seen ≡ inputObservation t bytes i (t .gauges)) where
+      (i : ℕ) (l : i < t .elements) {weight b : ℕ} {passed : Passed} {seen : Observation} (w : weight ≡ weightOf t i)
+      (all : b ≡ basinCount t) (counted : PassedBefore t i passed) (observed : seen ≡ inputObservation t bytes i (t .gauges)) where
     abbrev taken : ElementInput
-    taken = stepInput table i weight bytes b seen
+    taken = stepInput table i weight bytes b passed seen .input
 
-    own-is : (lead : ℕ) → lead < 1 → t .element i .kind ≡ basin → ownAt taken (0 + lead) ≡ stepOwn t (inputAt t bytes) i
-    unfolding ownAt stepOwn stepInput inputOf inputAt inputRain rainOf
-    own-is lead m k =
-        rw (
-          ← element-read table i l,
-          by-basin (t .element i .kind) (meanRainInflow (rainAt bytes b) 1 (t .element i .area) (t .element i .runoff)) 0 0 k,
-          by-basin (t .element i .kind) (rainAt bytes (basinsBefore t i)) 0 0 k,
-          counted,
-        )
-        (inflow-same _ _ _ _ lead m)
+    own-is : (lead : ℕ) → lead < 1 → leadOwn taken (0 + lead) ≡ stepOwn t (inputAt t bytes) i
+    unfolding stepOwn stepInput inputOf ownNumber inputAt inputRain rainOf inputRelease releaseOf
+    own-is lead m =
+        rw (← element-read table i l, counted .basins, counted .dams, all) (own-same (t .element i) _ _ lead m)
 
     input-of : InputOf t own o figuresBy 1 0 taken i 1
     unfolding stepInput inputOf observedIn inputAt
@@ -177,7 +251,7 @@ module _ (table bytes : List ℕ) (s : State) where
           element = sym (element-read table i l);
           weight = w;
           observation = observed;
-          inflow = own-is;
+          ownPart = own-is;
         }
 
     -- it is ready to be worked out
@@ -201,6 +275,7 @@ module _ (table bytes : List ℕ) (s : State) where
             element = in-range accepts kept i l;
             weight = few;
             firstLead = omega arith;
+            release = release-most accepts kept i l passed all (counted .dams);
             observation = observation-fits accepts kept i l observed;
           };
           number = omega arith;

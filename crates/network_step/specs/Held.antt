@@ -13,7 +13,8 @@ use Rattle.refusal.specs.Verdicts.{verdictAnswer}
 use Rattle.units.specs.Ceiling.{underCeiling}
 use Rattle.method.specs.Inflow.{noInflow}
 use Rattle.table.specs.Tables.{TableValues}
-use Rattle.table.specs.Bounds.{CountedTable}
+use Rattle.table.specs.declared.Counts.{Counts}
+use Rattle.table.specs.Bounds.{Counted}
 use Rattle.table.specs.InUse.{tableIn}
 use Rattle.record.specs.Records.{inputAt}
 use Rattle.record.specs.Rules.{recordRules}
@@ -26,11 +27,10 @@ use Rattle.network.specs.Step.{stepped, stepNumbers}
 use Rattle.answer_space.specs.Places.{figuresAt}
 use Rattle.next_state.specs.Written.{FiguresHeld}
 
--- an accepted table of n elements and m gauges with weights of its elements, an accepted record with what its gauges observed, and a
+-- an accepted table with its counts and weights of its elements, an accepted record with what its gauges observed, and a
 -- state that rule 8 accepts
-pub record StepReady (table : List ℕ) (n m T : ℕ) (weight bytes observed : List ℕ) (s : State) : Type 0 where
-  pub counted : CountedTable table n m
-  pub step : T ≡ tableIn table .step
+pub record StepReady (table : List ℕ) (counts : Counts) (weight bytes observed : List ℕ) (s : State) : Type 0 where
+  pub counted : Counted table counts
   pub weights : WeightsHeld (tableIn table) weight
   pub kept : recordRules {A = Unit} (tableIn table) bytes (accepted tt) ≡ accepted tt
   pub held : HoldsObservations observed (tableIn table) bytes (tableIn table .gauges)

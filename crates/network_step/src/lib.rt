@@ -7,7 +7,6 @@ ghost use Rattle.network_step.specs.Inputs.{inputOf, stepInput, StepInpu
 ghost use Rattle.network_step.specs.Held.{StepReady, Cleared, StepWorked, underVerdict, Stepped};
 use element_weights::weight_of;
 use elements::Element;
-use elements::basin_of;
 use elements::element_at;
 use elements::kind_at;
 use inflow::mean_rain_inflow;
@@ -18,6 +17,7 @@ use readings::gauge_here;
 use readings::observation_here;
 use record::Observation;
 use record::rain_at;
+use record::release_at;
 use refusal::Refusal;
 use refusal::Verdict;
 use sizes::OBSERVED_NUMBERS;
@@ -28,73 +28,103 @@ use sizes::STEP_SPACE;
 use state::figures_of;
 use table::Counts;
 
-// What a step works an element out of: its weight, the inflow of its one rain, lead 0, and what its gauge observed.
-fn input_of(
-    element: Element,
-    weight: u64,
-    rain_inflow: u64,
-    observation: Observation,
-) -> ElementInput
-    ensures { λ r. ⌜ r ≡ inputOf element weight «rain_inflow» observation ⌝ }
+// What a step works an element out of: its weight, its own number, lead 0, and what its gauge observed.
+fn input_of(element: Element, weight: u64, own: u64, observation: Observation) -> ElementInput
+    ensures { λ r. ⌜ r ≡ inputOf element weight own observation ⌝ }
 {
     ElementInput {
         element,
         weight,
-        rain_inflow,
+        own,
         first_lead: 0,
         observation,
     }
 }
 
-// The same of element i, counted from 0, where b basins come before it. (The element is read last, and only a basin's inflow is worked
-// out: where a branch follows, the compiler puts an element's numbers together byte by byte.)
+// How many basins and dams a step has come past.
+struct Passed {
+    basins: usize,
+    dams: usize,
+}
+
+// What an element is worked out of, and the basins and dams with it.
+struct StepInput {
+    input: ElementInput,
+    passed: Passed,
+}
+
+fn step_input_of(input: ElementInput, basins: usize, dams: usize) -> StepInput
+    ensures { λ r. ⌜ r ≡ record { input = input; passed = record { basins = basins; dams = dams } } ⌝ }
+{
+    let passed = Passed { basins, dams };
+    StepInput { input, passed }
+}
+
+// What element i, counted from 0, is worked out of: its kind chooses what the record, in which b rains stand, brings it: a rain, a release
+// or nothing. (The element is read last, and basins and dams are counted here: where a branch follows, the compiler puts an element's
+// numbers together byte by byte.)
 fn step_input(
     table: &[u8],
     i: usize,
     weight: u64,
     bytes: &[u8],
     b: usize,
+    passed: Passed,
     observation: Observation,
-) -> ElementInput
-    requires { ⌜ StepInputReady (now table) i (now bytes) b ⌝ }
-    ensures { λ r. ⌜ r ≡ stepInput (now (table .entry)) i weight (now (bytes .entry)) b observation ⌝ }
+) -> StepInput
+    requires { ⌜ StepInputReady (now table) i (now bytes) b passed ⌝ }
+    ensures { λ r. ⌜ r ≡ stepInput (now (table .entry)) i weight (now (bytes .entry)) b passed observation ⌝ }
 {
     let kind = kind_at(table, i);
+    let basins = passed.basins;
+    let dams = passed.dams;
     match kind {
         elements::BASIN => {
-            let rain = rain_at(bytes, b);
+            let rain = rain_at(bytes, basins);
             let element = element_at(table, i);
             let inflow = mean_rain_inflow(rain, 1, element.area, element.runoff);
-            input_of(element, weight, inflow, observation)
+            let input = input_of(element, weight, inflow, observation);
+            step_input_of(input, basins + 1, dams)
         }
-        elements::REACH => input_of(element_at(table, i), weight, 0, observation),
-        _ => input_of(element_at(table, i), weight, 0, observation),
+        elements::REACH => {
+            let input = input_of(element_at(table, i), weight, 0, observation);
+            step_input_of(input, basins, dams)
+        }
+        elements::DAM => {
+            let release = release_at(bytes, b, dams);
+            let input = input_of(element_at(table, i), weight, release, observation);
+            step_input_of(input, basins, dams + 1)
+        }
+        _ => {
+            let input = input_of(element_at(table, i), weight, 0, observation);
+            step_input_of(input, basins, dams)
+        }
     }
 }
 
-// All n elements, one after the other, each as one lead, of number 0: their new figures stand in the working space. 16 where a number
-// passes the ceiling.
+// All elements, one after the other, each as one lead, of number 0: their new figures stand in the working space. 16 where a number passes
+// the ceiling.
 fn work_step(
     table: &[u8],
-    n: usize,
-    m: usize,
-    step: u64,
+    counts: Counts,
     weights: &[u64],
     bytes: &[u8],
     observed: &[u64; OBSERVED_NUMBERS],
     state: &[u64; STATE_NUMBERS],
     space: &mut [u64],
 ) -> Verdict
-    requires { ⌜ StepReady (now table) n m step (now weights) (now bytes) (now observed) (now state) × Cleared n (now space) ⌝ }
+    requires { ⌜ StepReady (now table) counts (now weights) (now bytes) (now observed) (now state) × Cleared (counts .elements) (now space) ⌝ }
     ensures { λ r. ⌜ StepWorked r (now (space .exit)) (tableIn (now (table .entry))) (now (bytes .entry)) (now (state .entry)) ⌝ }
 {
-    let mut b: usize = 0;
+    let n = counts.elements;
+    let mut passed = Passed { basins: 0, dams: 0 };
     let mut g: usize = 0;
     for i in 0..n {
-        let here = gauge_here(table, n, m, g, i);
+        let here = gauge_here(table, n, counts.gauges, g, i);
         let observation = observation_here(observed, here, g);
-        let weight = weight_of(table, step, weights, i);
-        let input = step_input(table, i, weight, bytes, b, observation);
+        let weight = weight_of(table, counts.step, weights, i);
+        let taken = step_input(table, i, weight, bytes, counts.basins, passed, observation);
+        let input = taken.input;
         let element = input.element;
         let first = figures_of(state, i);
         let FiguresAnswer::Accepted(_) = one_lead::work_step(
@@ -106,7 +136,7 @@ fn work_step(
         ) else {
             return Verdict::Refused(Refusal::AboveCeiling);
         };
-        b += basin_of(element.kind);
+        passed = taken.passed;
         g += here;
     }
     Verdict::Accepted
@@ -116,23 +146,19 @@ fn work_step(
 // written.
 fn step_in(
     table: &[u8],
-    n: usize,
-    m: usize,
-    step: u64,
+    counts: Counts,
     weights: &[u64],
     bytes: &[u8],
     observed: &[u64; OBSERVED_NUMBERS],
     state: &mut [u64; STATE_NUMBERS],
     space: &mut [u64],
 ) -> bool
-    requires { ⌜ StepReady (now table) n m step (now weights) (now bytes) (now observed) (now state) × Cleared n (now space) ⌝ }
+    requires { ⌜ StepReady (now table) counts (now weights) (now bytes) (now observed) (now state) × Cleared (counts .elements) (now space) ⌝ }
     ensures { λ r. ⌜ Stepped (underVerdict r) (now (table .entry)) (now (bytes .entry)) (now (state .entry)) (now (state .exit)) ⌝ }
 {
     let verdict = work_step(
         table,
-        n,
-        m,
-        step,
+        counts,
         weights,
         bytes,
         observed,
@@ -141,7 +167,7 @@ fn step_in(
     );
     match verdict {
         Verdict::Accepted => {
-            write_state(table, n, bytes, &*space, state);
+            write_state(table, counts.elements, bytes, &*space, state);
             true
         }
         Verdict::Refused(_) => false,
@@ -157,21 +183,11 @@ fn step_small(
     observed: &[u64; OBSERVED_NUMBERS],
     state: &mut [u64; STATE_NUMBERS],
 ) -> bool
-    requires { ⌜ StepReady (now table) (counts .elements) (counts .gauges) (counts .step) (now weights) (now bytes) (now observed) (now state) × (counts .elements ≤ smallElements) ⌝ }
+    requires { ⌜ StepReady (now table) counts (now weights) (now bytes) (now observed) (now state) × (counts .elements ≤ smallElements) ⌝ }
     ensures { λ r. ⌜ Stepped (underVerdict r) (now (table .entry)) (now (bytes .entry)) (now (state .entry)) (now (state .exit)) ⌝ }
 {
     let mut space = [0u64; SMALL_STEP_SPACE];
-    step_in(
-        table,
-        counts.elements,
-        counts.gauges,
-        counts.step,
-        weights,
-        bytes,
-        observed,
-        state,
-        &mut space,
-    )
+    step_in(table, counts, weights, bytes, observed, state, &mut space)
 }
 
 fn step_large(
@@ -182,21 +198,11 @@ fn step_large(
     observed: &[u64; OBSERVED_NUMBERS],
     state: &mut [u64; STATE_NUMBERS],
 ) -> bool
-    requires { ⌜ StepReady (now table) (counts .elements) (counts .gauges) (counts .step) (now weights) (now bytes) (now observed) (now state) ⌝ }
+    requires { ⌜ StepReady (now table) counts (now weights) (now bytes) (now observed) (now state) ⌝ }
     ensures { λ r. ⌜ Stepped (underVerdict r) (now (table .entry)) (now (bytes .entry)) (now (state .entry)) (now (state .exit)) ⌝ }
 {
     let mut space = [0u64; STEP_SPACE];
-    step_in(
-        table,
-        counts.elements,
-        counts.gauges,
-        counts.step,
-        weights,
-        bytes,
-        observed,
-        state,
-        &mut space,
-    )
+    step_in(table, counts, weights, bytes, observed, state, &mut space)
 }
 
 // 16 where a number passes the ceiling.
@@ -219,7 +225,7 @@ pub fn step_on(
     observed: &[u64; OBSERVED_NUMBERS],
     state: &mut [u64; STATE_NUMBERS],
 ) -> Verdict
-    requires { ⌜ StepReady (now table) (counts .elements) (counts .gauges) (counts .step) (now weights) (now bytes) (now observed) (now state) ⌝ }
+    requires { ⌜ StepReady (now table) counts (now weights) (now bytes) (now observed) (now state) ⌝ }
     ensures { λ r. ⌜ Stepped r (now (table .entry)) (now (bytes .entry)) (now (state .entry)) (now (state .exit)) ⌝ }
 {
     if counts.elements <= SMALL_ELEMENTS {

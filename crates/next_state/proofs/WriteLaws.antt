@@ -10,7 +10,7 @@ use Rattle.elements.specs.Elements.{elementAt}
 use Rattle.elements.specs.Kinds.{byKind}
 use Rattle.elements.proofs.KindLaws.{kind-both, by-basin}
 use Rattle.table.specs.Tables.{TableValues}
-use Rattle.table.specs.Basins.{basinsBefore}
+use Rattle.table.specs.KindCounts.{basinsBefore}
 use Rattle.table.specs.InUse.{tableIn}
 use Rattle.table.proofs.InUseLaws.{element-read}
 use Rattle.record.specs.Records.{rainAt, rainOf, inputRain, inputAt}
@@ -50,10 +50,12 @@ module _ (table bytes : List ℕ) (s : State) where
           byKind (t .element i .kind)
           (putRains (putFigures now i (stepFigures t (inputAt t bytes) s i)) i (shiftedRains (rainAt bytes (basinsBefore t i)) (rainsOf now i)))
           (putFigures now i (stepFigures t (inputAt t bytes) s i)) (putFigures now i (stepFigures t (inputAt t bytes) s i))
+          (putFigures now i (stepFigures t (inputAt t bytes) s i))
           ≡ change i now
       same =
           kind-both (λ (p q : State). p ≡ q) (t .element i .kind)
-          (λ b. rw (by-basin (t .element i .kind) (rainAt bytes (basinsBefore t i)) 0 0 b, h, rains-before i)) (λ _. refl) (λ _ _. refl)
+          (λ b. rw (by-basin (t .element i .kind) (rainAt bytes (basinsBefore t i)) 0 0 0 b, h, rains-before i)) (λ _. refl) (λ _. refl)
+          (λ _ _ _. refl)
 
   -- the step count has not changed yet
   pub written-steps : (i : ℕ) {now : State} → now ≡ changed change i s → stepsOf now ≡ stepsOf s

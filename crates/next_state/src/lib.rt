@@ -40,6 +40,9 @@ fn put_step(
         elements::REACH => {
             put_figures(&mut *state, i, figures);
         }
+        elements::DAM => {
+            put_figures(&mut *state, i, figures);
+        }
         _ => {
             put_figures(&mut *state, i, figures);
         }

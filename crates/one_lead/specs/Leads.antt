@@ -2,18 +2,18 @@
 use Prim.Native.Nat.{ℕ}
 use mathlib.Core.List.{List}
 use Rattle.method.specs.declared.Figures.{Figures}
-use Rattle.inflow.specs.Basin.{basinInflow}
 use Rattle.element_step.specs.ElementStep.{elementStep, elementNumbers}
+use Rattle.element_step.specs.Answers.{ownAt}
 use Rattle.one_lead.specs.declared.ElementInput.{ElementInput}
 
 module _ (c : ElementInput) where
-  -- a basin's own inflow at a lead
-  unfoldable pub ownAt : ℕ → Figures
-  ownAt lead = basinInflow (c .«rain_inflow») lead (c .element .«rain_noise» .0)
+  -- what it has of its own at a lead
+  abbrev pub leadOwn : ℕ → Figures
+  leadOwn lead = ownAt (c .element) (c .own) lead
 
   -- its figures at a lead, from what drains into it and its figures before, and the numbers of 16
   unfoldable pub leadStep : ℕ → Figures → Figures → Figures
-  leadStep lead above old = elementStep (c .weight) (c .element) (ownAt lead) (c .observation) above old
+  leadStep lead above old = elementStep (c .weight) (c .element) (leadOwn lead) (c .observation) above old
 
   unfoldable pub leadStepNumbers : ℕ → Figures → Figures → List ℕ
-  leadStepNumbers lead above old = elementNumbers (c .weight) (c .element) (ownAt lead) (c .observation) above old
+  leadStepNumbers lead above old = elementNumbers (c .weight) (c .element) (leadOwn lead) (c .observation) above old

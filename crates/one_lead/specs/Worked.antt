@@ -4,14 +4,16 @@ use mathlib.Core.List.{List}
 use mathlib.Core.Logic.{_≢_}
 use mathlib.Core.Path.{_≡_}
 use lib.ListN.{length}
-use Rattle.units.specs.Units.{S}
+use Rattle.units.specs.Units.{C, S}
 use Rattle.units.specs.Ceiling.{underCeiling}
 use Rattle.method.specs.declared.Figures.{Figures}
 use Rattle.method.specs.declared.FiguresAnswer.{FiguresAnswer}
 use Rattle.method.specs.declared.FiguresAnswer.the-variants.{Accepted}
 use Rattle.method.specs.Figures.{figuresAnswer, FiguresFit}
+use Rattle.elements.specs.Kinds.{dam}
 use Rattle.record.specs.Decoded.{ObservationFits}
 use Rattle.element_step.specs.Bounds.{ElementInRange}
+use Rattle.element_step.specs.ElementStep.{released}
 use Rattle.answer_space.specs.Places.{figuresAt, putAndAdded, mostSum, FiguresBelow}
 use Rattle.one_lead.specs.declared.ElementInput.{ElementInput}
 use Rattle.one_lead.specs.declared.Lead.{Lead}
@@ -25,6 +27,7 @@ pub record InputInRange (c : ElementInput) : Type 0 where
   pub element : ElementInRange (c .element)
   pub weight : c .weight ≤ S
   pub firstLead : c .«first_lead» ≤ 1
+  pub release : c .element .kind ≡ dam → c .own ≤ C
   pub observation : ObservationFits (c .observation)
 
 pub record LeadReady (c : ElementInput) (lead : Lead) (before : Figures) (space : List ℕ) : Type 0 where
@@ -47,3 +50,9 @@ pub record LeadWorked (r : FiguresAnswer) (c : ElementInput) (lead : Lead) (old 
       ≡ underCeiling (leadStepNumbers c (lead .number) (figuresAt before (lead .here)) old)
       (leadStep c (lead .number) (figuresAt before (lead .here)) old)
   pub kept : (x : Figures) → r ≡ Accepted x → LeadKept x lead before after
+
+-- the release of a dam stands at its place, and is added at the place below: at any lead, whatever it had before
+pub record DamWorked (c : ElementInput) (here below : ℕ) (before after : List ℕ) : Type 0 where
+  pub at :
+      (number : ℕ) (old : Figures)
+      → LeadWorked (Accepted (released (c .element) (c .own))) c (record { number = number; here = here; below = below }) old before after

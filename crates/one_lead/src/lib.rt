@@ -1,11 +1,16 @@
 // One element at one lead of a forecast, or at a step: its figures take the place of what drained into it, and are added to what drains
 // into the element below.
+ghost use mathlib.Core.Logic.{_≢_};
 ghost use mathlib.Core.Path.{_≡_};
+ghost use Rattle.elements.specs.Kinds.{dam};
 ghost use Rattle.record.specs.declared.Observation.the-variants.{Nothing};
-ghost use Rattle.one_lead.specs.Worked.{stepLead, LeadReady, LeadWorked};
+ghost use Rattle.element_step.specs.ElementStep.{released};
+ghost use Rattle.answer_space.specs.Places.{PlacesReady};
+ghost use Rattle.one_lead.specs.Worked.{stepLead, InputInRange, LeadReady, LeadWorked, DamWorked};
 use answer_space::figures_at;
 use answer_space::put_and_add;
 use element_step::Intake;
+use element_step::dam_figures;
 use element_step::lead_element;
 use element_step::step_element;
 use elements::Element;
@@ -14,12 +19,12 @@ use method::FiguresAnswer;
 use record::Observation;
 use refusal::Refusal;
 
-// What a step or a forecast works out one element from: itself, its weight, the inflow that its rain brings, the number of the first lead
-// (0 for a step, 1 for a forecast), and what its gauge observed.
+// What a step or a forecast works out one element from: itself, its weight, its own number (a basin's inflow from rain, a dam's release, 0
+// for a reach), the number of the first lead (0 for a step, 1 for a forecast), and what its gauge observed.
 pub struct ElementInput {
     pub element: Element,
     pub weight: u64,
-    pub rain_inflow: u64,
+    pub own: u64,
     pub first_lead: u64,
     pub observation: Observation,
 }
@@ -31,15 +36,16 @@ pub struct Lead {
     pub below: usize,
 }
 
-// One lead of an element, from its figures before it: its figures, which now stand at its place, where what drains into it stood.
+// One lead of an element that stores water, from its figures before it: its figures, which now stand at its place, where what drains into it
+// stood.
 pub fn work_lead(input: ElementInput, lead: Lead, old: Figures, space: &mut [u64]) -> FiguresAnswer
-    requires { ⌜ LeadReady input lead old (now space) × (input .observation ≡ Nothing) ⌝ }
+    requires { ⌜ LeadReady input lead old (now space) × ((input .observation ≡ Nothing) × (input .element .kind ≢ dam)) ⌝ }
     ensures { λ r. ⌜ LeadWorked r input lead old (now (space .entry)) (now (space .exit)) ⌝ }
 {
     let above = figures_at(&*space, lead.here);
     let observation = input.observation;
     let intake = Intake {
-        rain_inflow: input.rain_inflow,
+        own: input.own,
         lead: lead.number,
         above,
         observation,
@@ -51,7 +57,15 @@ pub fn work_lead(input: ElementInput, lead: Lead, old: Figures, space: &mut [u64
     FiguresAnswer::Accepted(new)
 }
 
-// The step of an element, in the same way.
+// One lead of a dam: it lets out its release.
+pub fn hold_lead(input: ElementInput, here: usize, below: usize, space: &mut [u64])
+    requires { ⌜ (InputInRange input × (input .element .kind ≡ dam)) × PlacesReady (now space) here below (released (input .element) (input .own)) ⌝ }
+    ensures { λ _. ⌜ DamWorked input here below (now (space .entry)) (now (space .exit)) ⌝ }
+{
+    put_and_add(space, here, below, dam_figures(input.element, input.own));
+}
+
+// The step of an element, in the same way as a lead.
 pub fn work_step(
     input: ElementInput,
     here: usize,
@@ -65,7 +79,7 @@ pub fn work_step(
     let above = figures_at(&*space, here);
     let observation = input.observation;
     let intake = Intake {
-        rain_inflow: input.rain_inflow,
+        own: input.own,
         lead: 0,
         above,
         observation,

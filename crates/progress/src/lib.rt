@@ -35,6 +35,7 @@ pub fn first_progress() -> Progress
         elements: 0,
         gauges: 0,
         basins: 0,
+        dams: 0,
     };
     Progress {
         judged: false,

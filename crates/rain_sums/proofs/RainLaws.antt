@@ -2,11 +2,8 @@
 use Prim.Native.Nat.{ℕ, zero, suc, _+_, _≤_}
 use mathlib.Core.Logic.{_≢_}
 use mathlib.Core.Path.{_≡_, refl}
-use Rattle.elements.specs.Kinds.{basin, reach}
-use Rattle.elements.proofs.KindLaws.{by-basin, by-reach, by-none}
 use Rattle.state.specs.declared.Rains.{Rains}
 use Rattle.network.specs.Forecast.{rainSum}
-use Rattle.rain_sums.specs.Sums.{sumOf}
 
 -- a count that is none of 0, 1 and 2
 pub all-three-rains :
@@ -21,17 +18,3 @@ all-three-rains r zero l a b d = absurd (a refl)
 all-three-rains r (suc zero) l a b d = absurd (b refl)
 all-three-rains r (suc (suc zero)) l a b d = absurd (d refl)
 all-three-rains r (suc (suc (suc c))) l a b d = refl
-
--- the sum by the kind
-module _ (kind : ℕ) (r : Rains) (c : ℕ) where
-  pub sum-basin : kind ≡ basin → sumOf kind r c ≡ rainSum r c
-  unfolding sumOf
-  sum-basin k = by-basin kind _ _ _ k
-
-  pub sum-reach : kind ≡ reach → sumOf kind r c ≡ 0
-  unfolding sumOf
-  sum-reach k = by-reach kind _ _ _ k
-
-  pub sum-none : kind ≢ basin → kind ≢ reach → sumOf kind r c ≡ 0
-  unfolding sumOf
-  sum-none p q = by-none kind _ _ _ p q

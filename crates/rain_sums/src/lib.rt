@@ -2,11 +2,9 @@
 ghost use mathlib.Core.Path.{_≡_};
 ghost use Prim.Native.Nat.{_≤_, _<_};
 ghost use Rattle.sizes.specs.Sizes.{mostElements};
-ghost use Rattle.elements.specs.Kinds.{basin};
 ghost use Rattle.state.specs.States.{rainsOf};
 ghost use Rattle.state.specs.Bounds.{RainsUnder};
 ghost use Rattle.network.specs.Forecast.{rainCount, rainSum};
-ghost use Rattle.rain_sums.specs.Sums.{sumOf};
 use sizes::STATE_NUMBERS;
 use state::Rains;
 use state::rains_of;
@@ -31,14 +29,10 @@ fn rain_sum(rains: Rains, count: u64) -> u64
     }
 }
 
-// The sum of the last rains of element i: a basin's own; a reach's are not read.
-pub fn sum_of(kind: u64, state: &[u64; STATE_NUMBERS], i: usize, count: u64) -> u64
-    requires { ⌜ (i < mostElements) × ((count ≤ 3) × (kind ≡ basin → RainsUnder (rainsOf (now state) i))) ⌝ }
-    ensures { λ r. ⌜ (r ≡ sumOf kind (rainsOf (now (state .entry)) i) count) × (r ≤ 9000) ⌝ }
+// The sum of the last rains of element i, a basin.
+pub fn sum_of(state: &[u64; STATE_NUMBERS], i: usize, count: u64) -> u64
+    requires { ⌜ (i < mostElements) × ((count ≤ 3) × RainsUnder (rainsOf (now state) i)) ⌝ }
+    ensures { λ r. ⌜ (r ≡ rainSum (rainsOf (now (state .entry)) i) count) × (r ≤ 9000) ⌝ }
 {
-    match kind {
-        elements::BASIN => rain_sum(rains_of(state, i), count),
-        elements::REACH => 0,
-        _ => 0,
-    }
+    rain_sum(rains_of(state, i), count)
 }

@@ -13,7 +13,7 @@ use sizes::STATE_NUMBERS;
 use table::Counts;
 
 // A step on an accepted table, its counts, weights of its elements (or none) and the bytes of a record, from a state that rule 8 accepts:
-// rules 9 to 14 and 16.
+// rules 9 to 14, 16 and 17.
 pub fn step_from(
     table: &[u8],
     counts: Counts,
@@ -28,14 +28,7 @@ pub fn step_from(
         return Verdict::Refused(Refusal::StepLimit);
     }
     let mut observed = [0u64; OBSERVED_NUMBERS];
-    let verdict = record_reader::read(
-        bytes,
-        table,
-        counts.elements,
-        counts.gauges,
-        counts.basins,
-        &mut observed,
-    );
+    let verdict = record_reader::read(bytes, table, counts, &mut observed);
     match verdict {
         Verdict::Accepted => network_step::step_on(table, counts, weights, bytes, &observed, state),
         Verdict::Refused(_) => verdict,

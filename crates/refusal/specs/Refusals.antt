@@ -1,4 +1,4 @@
--- Document 01, Numbers for no: the number of each refusal.
+-- Document 01, Numbers for no, and document 02, M-100: the number of each refusal, in checking order.
 use Prim.Native.Nat.{ℕ}
 use Rattle.refusal.specs.declared.Refusal.{Refusal}
 use Rattle.refusal.specs.declared.Refusal.the-variants.{
@@ -14,6 +14,7 @@ use Rattle.refusal.specs.declared.Refusal.the-variants.{
   RecordLength,
   RecordVersion,
   RainRange,
+  ReleaseRange,
   StageRange,
   ReadingRange,
   AnswerSpace,
@@ -33,6 +34,7 @@ number StepLimit = 9
 number RecordLength = 10
 number RecordVersion = 11
 number RainRange = 12
+number ReleaseRange = 17
 number StageRange = 13
 number ReadingRange = 14
 number AnswerSpace = 15

@@ -2,7 +2,7 @@
 ghost use mathlib.Core.Path.{_≡_};
 ghost use Rattle.refusal.specs.Refusals.{number};
 
-// Document 01, Numbers for no: one refusal for each number, in checking order.
+// Document 01, Numbers for no, and document 02: one refusal for each number, in checking order.
 pub enum Refusal {
     TableLength,
     TableVersion,
@@ -16,6 +16,7 @@ pub enum Refusal {
     RecordLength,
     RecordVersion,
     RainRange,
+    ReleaseRange,
     StageRange,
     ReadingRange,
     AnswerSpace,
@@ -40,6 +41,7 @@ impl Refusal {
             Refusal::RecordLength => 10,
             Refusal::RecordVersion => 11,
             Refusal::RainRange => 12,
+            Refusal::ReleaseRange => 17,
             Refusal::StageRange => 13,
             Refusal::ReadingRange => 14,
             Refusal::AnswerSpace => 15,

@@ -136,10 +136,10 @@ module _ (t : TableValues) (bytes : List ℕ) (s after : State) (v : Verdict) (h
 
 module _ (bytes : List ℕ) (counts : Counts) (weights : List ℕ) (p : Weighed bytes counts weights) where
   pub few-elements : counts .elements ≤ mostElements
-  few-elements = omega (arith, p .held .elements, p .table .bounds .elementsMost)
+  few-elements = omega (arith, p .counted .held .elements, p .counted .table .bounds .elementsMost)
 
   pub few-leads : counts .leads + 1 ≤ mostLeads + 1
-  few-leads = omega (arith, p .held .leads, p .table .bounds .leadsMost)
+  few-leads = omega (arith, p .counted .held .leads, p .counted .table .bounds .leadsMost)
 
   pub lines-few : counts .elements * (counts .leads + 1) ≤ mostElements * (mostLeads + 1)
   lines-few = few-lines (counts .elements) (counts .leads + 1) few-elements few-leads
@@ -149,13 +149,13 @@ module _ (bytes : List ℕ) (counts : Counts) (weights : List ℕ) (p : Weighed 
       (steps : ℕ) (numbers : List ℕ) {before after : List ℕ} {at end : ℕ}
       → Put before at (answerLines steps (counts .leads + 1) numbers (counts .elements)) after end
       → Put before at (answerLines steps (tableIn bytes .leads + 1) numbers (tableIn bytes .elements)) after end
-  counted-lines steps numbers h = put-same (rw (p .held .leads, p .held .elements)) h
+  counted-lines steps numbers h = put-same (rw (p .counted .held .leads, p .counted .held .elements)) h
 
   pub counted-under :
       (numbers : List ℕ)
       → FiguresUnderCeiling numbers (4 * (tableIn bytes .elements * (tableIn bytes .leads + 1)))
       → FiguresUnderCeiling numbers (4 * (counts .elements * (counts .leads + 1)))
-  counted-under numbers h = rw (p .held .leads, p .held .elements) h
+  counted-under numbers h = rw (p .counted .held .leads, p .counted .held .elements) h
 
 -- ---- what a record leaves
 
@@ -205,6 +205,6 @@ pub record-left :
     → after ≡ recordOnPrinted (tableIn table) bytes s .state
     → (length after ≡ stateNumbers) × (stateFits (tableIn table) after ≡ true)
 record-left table bytes counts weights s space fours out at h e = (
-  rw e (record-length (tableIn table) bytes s (h .weighed .table .bounds) (h .stateWhole)),
-  rw e (record-fits (tableIn table) bytes s (h .weighed .table .bounds) (h .stateWhole) (h .stateKept)),
+  rw e (record-length (tableIn table) bytes s (h .weighed .counted .table .bounds) (h .stateWhole)),
+  rw e (record-fits (tableIn table) bytes s (h .weighed .counted .table .bounds) (h .stateWhole) (h .stateKept)),
 )

@@ -4,7 +4,7 @@ use mathlib.Core.Path.{_≡_}
 use Rattle.sizes.specs.Sizes.{mostElements, mostLeads, mostGauges}
 use Rattle.table.specs.declared.Counts.{Counts}
 use Rattle.table.specs.Tables.{TableValues}
-use Rattle.table.specs.Basins.{basinCount}
+use Rattle.table.specs.KindCounts.{basinCount, damCount}
 use Rattle.table.specs.Decoded.{CountsHeld}
 use Rattle.river.specs.declared.TablePlan.{TablePlan}
 use Rattle.river.specs.Replies.{planOf}
@@ -15,7 +15,8 @@ pub record CountsSmall (counts : Counts) : Type 0 where
   pub leads : counts .leads ≤ mostLeads
   pub gauges : counts .gauges ≤ mostGauges
   pub basins : counts .basins ≤ mostElements
+  pub dams : counts .dams ≤ mostElements
 
 -- what every table with these counts asks for
 pub record PlanAsked (counts : Counts) (r : TablePlan) : Type 0 where
-  pub of : (t : TableValues) → CountsHeld counts t → counts .basins ≡ basinCount t → r ≡ planOf t
+  pub of : (t : TableValues) → CountsHeld counts t → counts .basins ≡ basinCount t → counts .dams ≡ damCount t → r ≡ planOf t

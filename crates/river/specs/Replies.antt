@@ -5,7 +5,7 @@ use mathlib.Core.Path.{_≡_}
 use Rattle.refusal.specs.Answers.{Answer, accepted, refused}
 use Rattle.method.specs.declared.Figures.{Figures}
 use Rattle.table.specs.Tables.{TableValues}
-use Rattle.table.specs.Basins.{basinCount}
+use Rattle.table.specs.KindCounts.{basinCount, damCount}
 use Rattle.state.specs.States.{State}
 use Rattle.state.specs.Answers.{stateAfter}
 use Rattle.network.specs.Lent.{countWritten, lentAfter}
@@ -14,15 +14,15 @@ use Rattle.river.specs.declared.Written.{Written}
 
 -- the version of the interface
 abbrev pub version : ℕ
-version = 2
+version = 3
 
 -- the number for no; 0 where the call is accepted
 unfoldable pub refusalOf : {A : Type 0} → Answer A → ℕ
 refusalOf (accepted a) = 0
 refusalOf (refused n) = n
 
--- what a table asks the host to lend: "1 + 2 × basins + 2 × M" bytes after the two of a record's length, and "4 × N × (L + 1)"
--- numbers of a forecast; and T
+-- what a table asks the host to lend: "1 + 2 × basins + 2 × M" bytes, and 4 a dam (M-100), after the two of a record's length, and
+-- "4 × N × (L + 1)" numbers of a forecast; and T
 unfoldable pub planOf : TableValues → TablePlan
 planOf t =
     record {
@@ -31,7 +31,8 @@ planOf t =
       leads = t .leads;
       gauges = t .gauges;
       basins = basinCount t;
-      «record_bytes» = 3 + 2 * basinCount t + 2 * t .gauges;
+      dams = damCount t;
+      «record_bytes» = 3 + 2 * basinCount t + 4 * damCount t + 2 * t .gauges;
       «forecast_numbers» = 4 * t .elements * (t .leads + 1);
       «step_minutes» = t .step;
     }
@@ -44,6 +45,7 @@ noPlan n =
       leads = 0;
       gauges = 0;
       basins = 0;
+      dams = 0;
       «record_bytes» = 0;
       «forecast_numbers» = 0;
       «step_minutes» = 0;
@@ -53,7 +55,7 @@ unfoldable pub planReply : Answer TableValues → TablePlan
 planReply (accepted t) = planOf t
 planReply (refused n) = noPlan n
 
--- "The lowest that applies to a call is returned alone; state and lent memory stay as before."
+-- "returned alone; state and lent memory stay as before"
 pub record StateReplied (r : ℕ) (after : State) (answer : Answer State) (before : State) : Type 0 where
   pub refusal : r ≡ refusalOf answer
   pub state : after ≡ stateAfter answer before

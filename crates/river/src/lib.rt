@@ -23,6 +23,7 @@ pub struct TablePlan {
     pub leads: usize,
     pub gauges: usize,
     pub basins: usize,
+    pub dams: usize,
     pub record_bytes: usize,
     pub forecast_numbers: usize,
     pub step_minutes: u64,
@@ -68,13 +69,15 @@ fn plan_of(counts: Counts) -> TablePlan
     let leads = counts.leads;
     let gauges = counts.gauges;
     let basins = counts.basins;
+    let dams = counts.dams;
     TablePlan {
         refusal: 0,
         elements,
         leads,
         gauges,
         basins,
-        record_bytes: 3 + 2 * basins + 2 * gauges,
+        dams,
+        record_bytes: 3 + 2 * basins + 4 * dams + 2 * gauges,
         forecast_numbers: 4 * elements * (leads + 1),
         step_minutes: counts.step,
     }
@@ -89,6 +92,7 @@ fn no_plan(number: u64) -> TablePlan
         leads: 0,
         gauges: 0,
         basins: 0,
+        dams: 0,
         record_bytes: 0,
         forecast_numbers: 0,
         step_minutes: 0,
@@ -100,7 +104,7 @@ fn no_plan(number: u64) -> TablePlan
 pub extern "C" fn river_version() -> u64
     ensures { λ r. ⌜ r ≡ version ⌝ }
 {
-    2
+    3
 }
 
 // Judges the bytes of a table: rules 1 to 7.

@@ -1,19 +1,18 @@
 -- What rule 8 gives of a state that it accepts, and what it asks.
-use Prim.Native.Nat.{ℕ, _≤_, _<_}
-use mathlib.Core.Bool.{Bool, true, false, _&&_, true≢false}
-use mathlib.Core.Path.{_≡_, refl, sym, subst, _∙_}
-use borrow.Author.Tests.{leb-true, eqb-true, le-leb, eq-eqb}
+use Prim.Native.Nat.{ℕ, _<_}
+use mathlib.Core.Bool.{Bool, true, false, true≢false}
+use mathlib.Core.Path.{_≡_, sym, _∙_}
+use borrow.Author.Tests.{leb-true, eqb-true}
 use lib.Dec.{leb, eqb}
 use Rattle.units.specs.Units.{C}
 use Rattle.method.specs.declared.Figures.{Figures}
 use Rattle.method.specs.Figures.{FiguresFit}
-use Rattle.fields.specs.Ranges.{allBelow}
-use Rattle.fields.proofs.RangeLaws.{both, all-three, all-four, all-at, all-below}
-use Rattle.elements.specs.Kinds.{basin, IsKind, byKind}
+use Rattle.fields.proofs.RangeLaws.{both, all-three, all-four, all-at}
+use Rattle.elements.specs.Kinds.{basin}
 use Rattle.elements.proofs.KindLaws.{by-basin, kind-cases}
 use Rattle.table.specs.Tables.{TableValues}
 use Rattle.state.specs.declared.Rains.{Rains}
-use Rattle.state.specs.States.{State, ElementState, elementsOf, stepsOf, figuresOf, rainsOf, placeOf}
+use Rattle.state.specs.States.{State, ElementState, elementsOf, stepsOf, placeOf}
 use Rattle.state.specs.Rules.{figuresFit, rainsFit, placeFits, stateFits}
 use Rattle.state.specs.Bounds.{RainsUnder, StateBounds}
 
@@ -40,12 +39,12 @@ module _ (kind : ℕ) (p : ElementState) (h : placeFits kind p ≡ true) where
   unfolding placeFits
   place-figures =
       kind-cases (λ (fit : Bool). fit ≡ true → FiguresFit (p .figures)) kind
-      (λ _ k. figures-under _ (both (figuresFit (p .figures)) _ k .0)) (λ _ k. figures-under _ k)
-      (λ _ _ n. absurd (true≢false (sym n))) h
+      (λ _ k. figures-under _ (both (figuresFit (p .figures)) _ k .0)) (λ _ k. figures-under _ k) (λ _ k. figures-under _ k)
+      (λ _ _ _ n. absurd (true≢false (sym n))) h
 
   place-rains : kind ≡ basin → RainsUnder (p .rains)
   unfolding placeFits
-  place-rains k = rains-under _ (both (figuresFit (p .figures)) _ (sym (by-basin kind _ _ _ k) ∙ h) .1)
+  place-rains k = rains-under _ (both (figuresFit (p .figures)) _ (sym (by-basin kind _ _ _ _ k) ∙ h) .1)
 
 pub state-bounds : (t : TableValues) (s : State) → stateFits t s ≡ true → StateBounds t s
 unfolding stateFits placeOf

@@ -1,5 +1,5 @@
 -- Laws of the state: what a change of one place leaves, the start and rule 8.
-use Prim.Native.Nat.{ℕ, zero, suc, _+_, _*_, _≤_, _<_}
+use Prim.Native.Nat.{ℕ, zero, suc, _+_, _≤_, _<_}
 use mathlib.Core.Bool.{Bool, _&&_}
 use mathlib.Core.List.{List}
 use mathlib.Core.Logic.{_≢_, ⊎-elim}
@@ -15,7 +15,7 @@ use Rattle.fields.specs.Ranges.{allBelow}
 use Rattle.method.specs.declared.Figures.{Figures}
 use Rattle.elements.specs.declared.Element.{Element}
 use Rattle.elements.specs.Elements.{elementAt}
-use Rattle.elements.specs.Kinds.{basin, byKind}
+use Rattle.elements.specs.Kinds.{basin}
 use Rattle.elements.proofs.KindLaws.{by-basin, kind-cases}
 use Rattle.table.specs.Tables.{TableValues}
 use Rattle.table.specs.InUse.{tableIn}
@@ -31,7 +31,6 @@ use Rattle.state.specs.States.{
   rainsOf,
   placeOf,
   putElements,
-  putSteps,
   putFigures,
   putRains,
   putPlace,
@@ -240,7 +239,7 @@ pub place-changes : (kind : ℕ) (f : Figures) (r : Rains) (i : ℕ) (s : State)
 unfolding putPlace
 place-changes kind f r i s =
     let c = figures-change s i f in
-    kind-cases (ChangesAt i s) kind (λ _. changes-then c (rains-change _ i r)) (λ _. c) (λ _ _. c)
+    kind-cases (ChangesAt i s) kind (λ _. changes-then c (rains-change _ i r)) (λ _. c) (λ _. c) (λ _ _ _. c)
 
 -- room for a place of the state
 pub place-room : (s : State) (i : ℕ) → length s ≡ stateNumbers → i < mostElements → placeStart i + 6 < length s
@@ -257,11 +256,12 @@ module _ (kind : ℕ) (f : Figures) (r : Rains) (i : ℕ) (s : State) (room : pl
   unfolding putPlace
   place-figures =
       let p = figures-put s i room f in
-      kind-cases (λ (x : State). figuresOf x i ≡ f) kind (λ _. rains-put-figures moved i moved-room r ∙ p) (λ _. p) (λ _ _. p)
+      kind-cases (λ (x : State). figuresOf x i ≡ f) kind (λ _. rains-put-figures moved i moved-room r ∙ p) (λ _. p) (λ _. p)
+      (λ _ _ _. p)
 
   pub place-rains : kind ≡ basin → rainsOf (putPlace kind f r i s) i ≡ r
   unfolding putPlace
-  place-rains k = ap (λ (x : State). rainsOf x i) (by-basin kind _ _ _ k) ∙ rains-put moved i moved-room r
+  place-rains k = ap (λ (x : State). rainsOf x i) (by-basin kind _ _ _ _ k) ∙ rains-put moved i moved-room r
 
 -- all places: change i sets the place of element i to figures and, where it is a basin, rains
 pub record PutsPlaces (t : TableValues) (change : ℕ → State → State) (f : ℕ → Figures) (r : ℕ → Rains) : Type 0 where

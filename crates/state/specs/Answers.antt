@@ -1,14 +1,12 @@
 -- Document 01, Numbers for no: what a call answers and which state it leaves.
 use Prim.{Unit}
-use Prim.Native.Nat.{ℕ}
-use mathlib.Core.List.{List}
 use mathlib.Core.Path.{_≡_}
 use Rattle.refusal.specs.Answers.{Answer, accepted, refused}
 use Rattle.refusal.specs.Verdicts.{verdictAnswer}
 use Rattle.refusal.specs.declared.Verdict.{Verdict}
 use Rattle.state.specs.States.{State}
 
--- "The lowest that applies to a call is returned alone; state and lent memory stay as before."
+-- "returned alone; state and lent memory stay as before"
 unfoldable pub verdict : {A : Type 0} → Answer A → Answer Unit
 verdict (accepted a) = accepted tt
 verdict (refused n) = refused n

@@ -20,9 +20,10 @@ figuresFit f =
 unfoldable pub rainsFit : Rains → Bool
 rainsFit r = (leb (r .first) 3000 && leb (r .second) 3000) && leb (r .third) 3000
 
--- "A reach's rain places, if kept, are neither read nor changed."
+-- "A reach's rain places, if kept, are neither read nor changed."; document 02, M-100: a dam's "rain places are as a reach's"
 unfoldable pub placeFits : ℕ → ElementState → Bool
-placeFits kind p = byKind kind (figuresFit (p .figures) && rainsFit (p .rains)) (figuresFit (p .figures)) false
+placeFits kind p =
+    byKind kind (figuresFit (p .figures) && rainsFit (p .rains)) (figuresFit (p .figures)) (figuresFit (p .figures)) false
 
 -- 8: "The state has another N, a step count above 10,000, or, in its first N elements, a number above C or a basin's rain
 -- above 3,000."

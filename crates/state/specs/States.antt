@@ -68,9 +68,9 @@ putRains s i r =
     set (set (set s (placeStart i + 4) (r .first)) (placeStart i + 5) (r .second)) (placeStart i + 6) (r .third)
 
 -- the place of element i after a start or a step: its figures, and a basin's rains; "A reach's rain places, if kept, are neither
--- read nor changed."
+-- read nor changed.", M-100: a dam's "rain places are as a reach's"
 unfoldable pub putPlace : ℕ → Figures → Rains → ℕ → State → State
-putPlace kind f r i s = byKind kind (putRains (putFigures s i f) i r) (putFigures s i f) (putFigures s i f)
+putPlace kind f r i s = byKind kind (putRains (putFigures s i f) i r) (putFigures s i f) (putFigures s i f) (putFigures s i f)
 
 -- the first n places changed, one after the other; "What it holds beyond its first N elements is neither read nor changed."
 unfoldable pub changed : (ℕ → State → State) → ℕ → State → State

@@ -3,7 +3,7 @@
 ghost use mathlib.Core.Path.{_≡_};
 ghost use Prim.Native.Nat.{_<_};
 ghost use Rattle.sizes.specs.Sizes.{mostElements};
-ghost use Rattle.state.specs.States.{stepsOf, figuresOf, rainsOf, placeOf, putFigures, putRains};
+ghost use Rattle.state.specs.States.{figuresOf, rainsOf, placeOf, putFigures, putRains};
 ghost use Rattle.state.specs.Rules.{figuresFit, rainsFit, placeFits, stepsLeft};
 use method::Figures;
 use sizes::PLACE_NUMBERS;
@@ -30,6 +30,14 @@ pub fn figures_of(state: &[u64; STATE_NUMBERS], i: usize) -> Figures
         variance: Variance(state[at + 2]),
         variance_margin: Variance(state[at + 3]),
     }
+}
+
+// The discharge of element i alone.
+pub fn discharge_of(state: &[u64; STATE_NUMBERS], i: usize) -> Discharge
+    requires { ⌜ i < mostElements ⌝ }
+    ensures { λ r. ⌜ r ≡ figuresOf (now (state .entry)) i .discharge ⌝ }
+{
+    Discharge(state[PLACE_NUMBERS * i + 2])
 }
 
 // The rains of element i.
@@ -114,6 +122,7 @@ pub fn place_fits(state: &[u64; STATE_NUMBERS], i: usize, kind: u64) -> bool
     match kind {
         elements::BASIN => rains_fit(rains_of(state, i)),
         elements::REACH => true,
+        elements::DAM => true,
         _ => false,
     }
 }

@@ -16,6 +16,7 @@ use Rattle.refusal.proofs.RuleLaws.{not-both}
 use Rattle.fields.specs.Bytes.{number32}
 use Rattle.fields.proofs.RangeLaws.{both}
 use Rattle.elements.specs.Elements.{elementAt}
+use Rattle.elements.specs.Kinds.{basinOf, damOf}
 use Rattle.elements.specs.Bounds.{ElementBounds}
 use Rattle.gauges.specs.Gauges.{gaugeAt}
 use Rattle.table.specs.declared.Counts.{Counts}
@@ -23,14 +24,13 @@ use Rattle.table.specs.declared.TableAnswer.{TableAnswer}
 use Rattle.refusal.specs.declared.Verdict.the-variants.{Accepted, Refused}
 use Rattle.refusal.specs.Verdicts.{verdictAnswer}
 use Rattle.table.specs.Tables.{tableOf}
-use Rattle.table.specs.Basins.{basinCount}
 use Rattle.table.specs.Rules.{lengthFits, sizeFits, tableRules}
-use Rattle.table.specs.Decoded.{CountsHeld, TableRead}
-use Rattle.table.specs.Bounds.{AcceptedTable, CountedTable}
+use Rattle.table.specs.Decoded.{TableRead}
+use Rattle.table.specs.Bounds.{AcceptedTable, Counted, CountedTable}
 use Rattle.table.specs.InUse.{inUse, tableIn}
 use Rattle.table.proofs.InUseLaws.{element-read, gauge-read, bounds-in-use}
 use Rattle.table.proofs.TableLaws.{rules-kept, table-bounds}
-use Rattle.table.proofs.BasinLaws.{basins-in-use}
+use Rattle.table.proofs.CountLaws.{count-in-use}
 
 -- rules 1 and 4 together: the bytes are those of N elements and M gauges
 module _ (bytes : List ℕ) where
@@ -82,12 +82,14 @@ module _ (bytes : List ℕ) {n m : ℕ} (t : CountedTable bytes n m) where
   pub gauge-in-use : (g : ℕ) → g < m → ((n ≤ mostElements) × (g ≤ mostGauges)) × (26 * n + 46 * g + 56 ≤ length bytes)
   gauge-in-use g l = rw (t .elements) (gauge-there bytes (t .table) (omega (arith, t .gauges)))
 
+-- the elements and gauges of a table with its counts
+pub counted-table : (bytes : List ℕ) (counts : Counts) → Counted bytes counts → CountedTable bytes (counts .elements) (counts .gauges)
+counted-table bytes counts c = record { table = c .table; elements = c .held .elements; gauges = c .held .gauges }
+
 -- what an accepted table gives
 pub record TableKnown (bytes : List ℕ) (read : Counts) : Type 0 where
   pub kept : tableRules {A = Unit} bytes (accepted tt) ≡ accepted tt
-  pub table : AcceptedTable bytes
-  pub counts : CountsHeld read (tableIn bytes)
-  pub basins : read .basins ≡ basinCount (tableIn bytes)
+  pub counted : Counted bytes read
 
 module _ (bytes : List ℕ) (r : TableAnswer) (h : TableRead bytes r) where
   pub table-accepted : r .verdict ≡ Accepted → TableKnown bytes (r .counts)
@@ -97,9 +99,12 @@ module _ (bytes : List ℕ) (r : TableAnswer) (h : TableRead bytes r) where
       let held = h .counts kept in
       record {
         kept = kept;
-        table = accepted-table bytes kept;
-        counts = record { step = held .step; leads = held .leads; elements = held .elements; gauges = held .gauges };
-        basins = h .basins kept ∙ basins-in-use bytes;
+        counted = record {
+          table = accepted-table bytes kept;
+          held = record { step = held .step; leads = held .leads; elements = held .elements; gauges = held .gauges };
+          basins = h .basins kept ∙ count-in-use basinOf bytes;
+          dams = h .dams kept ∙ count-in-use damOf bytes;
+        };
       }
 
   pub table-refused : {k : Refusal} → r .verdict ≡ Refused k → tableRules {A = Unit} bytes (accepted tt) ≡ refused (number k)
@@ -116,4 +121,5 @@ refused-read bytes r e h =
       verdict = ap verdictAnswer e ∙ sym h;
       counts = λ a. absurd (not-both a h);
       basins = λ a. absurd (not-both a h);
+      dams = λ a. absurd (not-both a h);
     }

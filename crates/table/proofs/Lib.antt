@@ -1,4 +1,4 @@
 pub mod TableLaws
 pub mod InUseLaws
-pub mod BasinLaws
+pub mod CountLaws
 pub mod HeldLaws

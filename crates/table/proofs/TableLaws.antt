@@ -1,10 +1,9 @@
 -- Laws of rules 1 to 7: what follows them decides where they accept, and what callers may then rely on.
 use Prim.{Unit}
 use Prim.Native.Nat.{ℕ, _+_, _≤_}
-use mathlib.Core.Bool.{Bool, true, false, not}
+use mathlib.Core.Bool.{Bool, true}
 use mathlib.Core.List.{List}
-use mathlib.Core.Path.{_≡_, sym, _∙_}
-use borrow.Author.Tests.{not-true, not-false}
+use mathlib.Core.Path.{_≡_}
 use Rattle.sizes.specs.Sizes.{mostElements, mostLeads, mostGauges}
 use Rattle.refusal.proofs.RuleLaws.{rule-then, rule-kept}
 use Rattle.refusal.specs.Answers.{Answer, accepted, refused, andThen, rule}
@@ -109,8 +108,8 @@ table-bounds bytes h =
       elementsMost = n .elementsMost;
       gaugesMost = n .gaugesMost;
       element = λ i l. element-bounds _ (t .element) i (t .step) (all-at _ _ i l (k .elements)) (all-at _ _ i l (k .downs));
-      gauge = λ g l. gauge-bounds _ (t .gauge) g (all-at _ _ g l (k .gauges));
-      rising = λ g l. gauge-rises _ (t .gauge) g (all-at _ _ (g + 1) l (k .gauges));
+      gauge = λ g l. gauge-bounds _ _ (t .gauge) g (all-at _ _ g l (k .gauges));
+      rising = λ g l. gauge-rises _ _ (t .gauge) g (all-at _ _ (g + 1) l (k .gauges));
     }
 
 -- the fields of the header that the code reads
@@ -138,14 +137,7 @@ module _ (bytes : List ℕ) where
       {n m : ℕ} {fit : Bool}
       → n ≡ byteAt bytes 8
       → m ≡ byteAt bytes 9
-      → fit ≡ allBelow (gaugeFits n (gaugeAt bytes n)) m
+      → fit ≡ allBelow (gaugeFits n (elementAt bytes) (gaugeAt bytes n)) m
       → fit ≡ gaugesFit (tableOf bytes)
   unfolding tableOf
   gauges-judged n m h = rw (← n, ← m) h
-
--- a test that the code worked out and found kept, or broken
-pub kept : {fit test : Bool} → fit ≡ test → not fit ≡ false → test ≡ true
-kept {fit} e h = sym e ∙ not-false fit h
-
-pub broken : {fit test : Bool} → fit ≡ test → not fit ≡ true → test ≡ false
-broken {fit} e h = sym e ∙ not-true fit h

@@ -7,6 +7,9 @@ use Rattle.sizes.specs.Sizes.{mostElements, mostLeads, mostGauges}
 use Rattle.elements.specs.Bounds.{ElementBounds}
 use Rattle.gauges.specs.Bounds.{GaugeBounds}
 use Rattle.table.specs.Tables.{TableValues}
+use Rattle.table.specs.declared.Counts.{Counts}
+use Rattle.table.specs.KindCounts.{basinCount, damCount}
+use Rattle.table.specs.Decoded.{CountsHeld}
 use Rattle.table.specs.InUse.{tableIn}
 
 pub record TableBounds (t : TableValues) : Type 0 where
@@ -24,6 +27,13 @@ pub record TableBounds (t : TableValues) : Type 0 where
 pub record AcceptedTable (bytes : List ℕ) : Type 0 where
   pub bounds : TableBounds (tableIn bytes)
   pub whole : 26 * tableIn bytes .elements + 46 * tableIn bytes .gauges + 10 ≤ length bytes
+
+-- the bytes of an accepted table and its counts
+pub record Counted (bytes : List ℕ) (counts : Counts) : Type 0 where
+  pub table : AcceptedTable bytes
+  pub held : CountsHeld counts (tableIn bytes)
+  pub basins : counts .basins ≡ basinCount (tableIn bytes)
+  pub dams : counts .dams ≡ damCount (tableIn bytes)
 
 -- how many elements and gauges an accepted table has
 pub record CountedTable (bytes : List ℕ) (n m : ℕ) : Type 0 where

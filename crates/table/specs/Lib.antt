@@ -1,5 +1,5 @@
 pub mod Tables
-pub mod Basins
+pub mod KindCounts
 pub mod Rules
 pub mod Decoded
 pub mod InUse

@@ -38,7 +38,7 @@ abbrev pub downsFit : TableValues → Bool
 downsFit t = allBelow (downFits (t .elements) (t .element)) (t .elements)
 
 abbrev pub gaugesFit : TableValues → Bool
-gaugesFit t = allBelow (gaugeFits (t .elements) (t .gauge)) (t .gauges)
+gaugesFit t = allBelow (gaugeFits (t .elements) (t .element) (t .gauge)) (t .gauges)
 
 -- 1 to 7 in checking order; where all are kept, what follows them decides
 unfoldable pub tableRules : {A : Type 0} → List ℕ → Answer A → Answer A
@@ -50,4 +50,4 @@ tableRules bytes rest =
     (rule 4 (sizeFits bytes t)
     (rule 5 (allBelow (λ i. elementFits (t .step) (t .element i)) (t .elements))
     (rule 6 (allBelow (downFits (t .elements) (t .element)) (t .elements))
-    (rule 7 (allBelow (gaugeFits (t .elements) (t .gauge)) (t .gauges)) rest))))))
+    (rule 7 (allBelow (gaugeFits (t .elements) (t .element) (t .gauge)) (t .gauges)) rest))))))

@@ -14,13 +14,14 @@ use sizes::MOST_ELEMENTS;
 use sizes::MOST_GAUGES;
 use sizes::MOST_LEADS;
 
-// The counts of a table: T in minutes, L, N and M, and how many of its elements are basins.
+// The counts of a table: T in minutes, L, N and M, and how many of its elements are basins and dams.
 pub struct Counts {
     pub step: u64,
     pub leads: usize,
     pub elements: usize,
     pub gauges: usize,
     pub basins: usize,
+    pub dams: usize,
 }
 
 // The counts of a table, where its bytes are accepted.
@@ -67,7 +68,7 @@ pub fn size_fits(table: &[u8]) -> bool
     whole32(table, 0) == 6 + 26 * wide(table[8]) + 46 * wide(table[9])
 }
 
-// The counts that the header says; the basins are not counted yet.
+// The counts that the header says; basins and dams are not counted yet.
 pub fn counts_of(table: &[u8]) -> Counts
     requires { ⌜ 10 ≤ length (now table) ⌝ }
     ensures { λ r. ⌜ CountsHeld r (tableOf (now (table .entry))) ⌝ }
@@ -78,5 +79,6 @@ pub fn counts_of(table: &[u8]) -> Counts
         elements: wide(table[8]) as usize,
         gauges: wide(table[9]) as usize,
         basins: 0,
+        dams: 0,
     }
 }

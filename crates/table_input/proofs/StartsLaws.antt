@@ -175,8 +175,8 @@ module _
       omega (arith, few, all, part)
 
   pub started-input-fits : stateFits (tableIn (take (r .length) input)) after ≡ true
-  started-input-fits = rw started-here (started-fits (tableIn (take (r .length) input)) s (o .fits v .table .bounds) full)
+  started-input-fits = rw started-here (started-fits (tableIn (take (r .length) input)) s (o .fits v .counted .table .bounds) full)
 
   pub started-input-length : length after ≡ stateNumbers
   started-input-length =
-      rw started-here (started-length (tableIn (take (r .length) input)) s full (o .fits v .table .bounds .elementsMost))
+      rw started-here (started-length (tableIn (take (r .length) input)) s full (o .fits v .counted .table .bounds .elementsMost))

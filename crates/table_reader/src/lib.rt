@@ -10,19 +10,21 @@ ghost use Rattle.table.specs.Decoded.{CountsHeld, TableRead};
 ghost use Rattle.refusal.specs.declared.Verdict.the-variants.{Refused};
 ghost use Rattle.table_reader.specs.Judged.{Judged};
 use down_rules::down_fits;
-use element_rules::element_fits;
-use elements::basin_of;
+use element_rules::JudgedElement;
+use element_rules::judge_element;
 use elements::element_at;
 use refusal::Refusal;
 use refusal::Verdict;
 use table::Counts;
 use table::TableAnswer;
 
-// What rules 5 and 6 say of the elements: whether all keep rule 5 and, where they do, whether all keep rule 6, and how many are basins.
+// What rules 5 and 6 say of the elements: whether all keep rule 5 and, where they do, whether all keep rule 6, and how many are basins
+// and dams.
 struct ElementsJudged {
     fit: bool,
     later: bool,
     basins: usize,
+    dams: usize,
 }
 
 // Rules 5 and 6 on the first n elements, each element once.
@@ -32,24 +34,35 @@ fn judge_elements(table: &[u8], step: u64, n: usize) -> ElementsJudged
 {
     let mut later = true;
     let mut basins: usize = 0;
+    let mut dams: usize = 0;
     for i in 0..n {
-        let element = element_at(table, i);
-        if !element_fits(step, element) {
-            return ElementsJudged {
-                fit: false,
-                later,
-                basins,
-            };
+        let judged = judge_element(step, element_at(table, i));
+        match judged {
+            JudgedElement::Refused => {
+                return ElementsJudged {
+                    fit: false,
+                    later,
+                    basins,
+                    dams,
+                };
+            }
+            JudgedElement::Basin => {
+                basins += 1;
+            }
+            JudgedElement::Reach => {}
+            JudgedElement::Dam => {
+                dams += 1;
+            }
         }
         if !down_fits(table, n, i) {
             later = false;
         }
-        basins += basin_of(element.kind);
     }
     ElementsJudged {
         fit: true,
         later,
         basins,
+        dams,
     }
 }
 
@@ -63,7 +76,7 @@ fn refused(counts: Counts, refusal: Refusal) -> TableAnswer
     }
 }
 
-// Rules 2 to 7 in checking order, where rule 1 is kept; the counts of the header, with the basins.
+// Rules 2 to 7 in checking order, where rule 1 is kept; the counts of the header, with basins and dams.
 fn judge(table: &[u8], counts: Counts) -> TableAnswer
     requires { ⌜ (lengthFits (now table) ≡ true) × CountsHeld counts (tableOf (now table)) ⌝ }
     ensures { λ r. ⌜ TableRead (now (table .entry)) r ⌝ }
@@ -96,6 +109,7 @@ fn judge(table: &[u8], counts: Counts) -> TableAnswer
             elements: n,
             gauges: counts.gauges,
             basins: elements.basins,
+            dams: elements.dams,
         },
     }
 }
@@ -111,6 +125,7 @@ pub fn read(table: &[u8]) -> TableAnswer
             elements: 0,
             gauges: 0,
             basins: 0,
+            dams: 0,
         };
         return refused(none, Refusal::TableLength);
     }

@@ -1,9 +1,10 @@
 -- Rule 16 on numbers after numbers: none passes the ceiling where none of any part does.
 use Prim.{Unit}
-use Prim.Native.Nat.{ℕ}
+use Prim.Native.Nat.{ℕ, _≤_}
 use mathlib.Core.Bool.{Bool, true, false, cond, _||_}
 use mathlib.Core.List.{List, [], _∷_, _++_}
 use mathlib.Core.Path.{_≡_, refl, sym, ap, _∙_}
+use borrow.Author.Tests.{ltb-false}
 use native.Mathlib.Omega.{arith}
 use lib.Dec.{ltb}
 use Rattle.refusal.specs.Answers.{Answer, accepted, refused}
@@ -25,6 +26,15 @@ none-under = refl
 pub neither : (a b : Bool) → (a || b) ≡ false → (a ≡ false) × (b ≡ false)
 neither true b h = let z : _≡_ {A = ℕ} 0 1 = cc in absurd (omega arith)
 neither false b h = (refl, h)
+
+-- the first number of a list under the ceiling
+pub first-under : (n : ℕ) (ns : List ℕ) → Under (n ∷ ns) → (n ≤ C) × Under ns
+unfolding somePasses
+first-under n ns u = go (ltb C n) refl u
+  where
+    go : (b : Bool) → ltb C n ≡ b → (b || somePasses ns) ≡ false → (n ≤ C) × Under ns
+    go true e h = let z : _≡_ {A = ℕ} 0 1 = cc in absurd (omega arith)
+    go false e h = (ltb-false C n e, h)
 
 -- two lists, one after the other
 pub parts-under : (ns ms : List ℕ) → Under (ns ++ ms) → Under ns × Under ms

@@ -7,9 +7,7 @@ use lib.ListN.{length, length-set, getD}
 use Rattle.sizes.specs.Sizes.{mostElements}
 use Rattle.fields.proofs.PlacesLaws.{filled-more}
 use Rattle.table.specs.InUse.{tableIn}
-use Rattle.table.proofs.HeldLaws.{element-there}
 use Rattle.network.specs.Step.{weightOf}
-use Rattle.element_weights.proofs.WeightsLaws.{weight-read, lag-bounds}
 use Rattle.element_weights.proofs.put_weights.Statement.{statement}
 use Rattle.element_weights.proofs.put_weights.Tie as tie
 
@@ -36,32 +34,27 @@ room c = omega (arith, c .loop-test .taken, start c .pre .1, c .before .loop .in
 loop-holds : tie.Need-loop-holds Inv-loop μ-loop
 loop-holds c = (omega arith, (refl, λ k l. absurd (omega arith)))
 
-lag-at-requires : tie.Need-lag-at-requires Inv-loop μ-loop
-lag-at-requires c κs = element-there _ (start c .pre .0 .table) (used c)
-
-series-weight-requires : tie.Need-series-weight-requires Inv-loop μ-loop
-series-weight-requires c κs =
-    let s = start (c .before) .pre .0 in
-    lag-bounds _ _ (used (c .before)) (s .table) (s .step) (c .lag-at .ensures)
+work-weight-requires : tie.Need-work-weight-requires Inv-loop μ-loop
+work-weight-requires c κs =
+    let p = start c .pre .0 in record { table = p .table; step = p .step; used = used c }
 
 mul-weights : tie.Need-mul-weights Inv-loop μ-loop
-mul-weights c = omega (arith, within (c .before .before))
+mul-weights c = omega (arith, within (c .before))
 
 slice-write-weights : tie.Need-slice-write-weights Inv-loop μ-loop
-slice-write-weights c = room (c .before .before)
+slice-write-weights c = room (c .before)
 
 add-i : tie.Need-add-i Inv-loop μ-loop
-add-i c = omega (arith, within (c .before .before))
+add-i c = omega (arith, within (c .before))
 
 loop-less : tie.Need-loop-less Inv-loop μ-loop
 loop-less c = search needs
 
 loop-again : tie.Need-loop-again Inv-loop μ-loop
 loop-again c =
-    let t = c .before .before in
+    let t = c .before in
     let l = t .before .loop in
-    let held = weight-read _ _ (used t) (start t .pre .0 .step) (c .before .lag-at .ensures) (c .series-weight .ensures .0) in
-    (omega arith, (rw length-set (l .inv .1 .0), filled-more (l .weights) 0 _ (l .i) _ (l .inv .1 .1) held (room t)))
+    (omega arith, (rw length-set (l .inv .1 .0), filled-more (l .weights) 0 _ (l .i) _ (l .inv .1 .1) (c .work-weight .ensures .0) (room t)))
 
 same-length : tie.Need-same-length Inv-loop μ-loop
 same-length c = search needs
@@ -79,8 +72,7 @@ put-weights-spec =
     Inv-loop
     μ-loop
     loop-holds
-    lag-at-requires
-    series-weight-requires
+    work-weight-requires
     mul-weights
     slice-write-weights
     add-i

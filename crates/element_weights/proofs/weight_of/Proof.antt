@@ -1,8 +1,6 @@
 -- `weight_of` meets its contract.
 use borrow.Author.Needs.{needs}
-use Rattle.weighting.proofs.WeightLaws.{weight-most}
-use Rattle.network.specs.Step.{weightOf}
-use Rattle.element_weights.proofs.WeightsLaws.{weight-read, lag-bounds}
+use Rattle.network.proofs.StepLaws.{weight-of-most}
 use Rattle.element_weights.proofs.weight_of.Statement.{statement}
 use Rattle.element_weights.proofs.weight_of.Tie as tie
 
@@ -13,25 +11,17 @@ shared-slice-read-result : tie.Need-shared-slice-read-result
 shared-slice-read-result c = search needs
 
 returns : tie.Need-returns
-unfolding weightOf
 returns c =
     let t = c .before in
     let p = t .before .before .before .pre in
-    let held = p .weights .at _ (p .used) (t .if1 .taken) in
-    (held, rw held (weight-most _ _))
+    let held = p .weights .at _ (p .element .used) (t .if1 .taken) in
+    (held, rw held (weight-of-most _ _))
 
-lag-at-requires : tie.Need-lag-at-requires
-lag-at-requires c κs = search needs
-
-series-weight-requires : tie.Need-series-weight-requires
-series-weight-requires c κs =
-    let p = c .before .before .before .before .pre in
-    lag-bounds _ _ (p .used) (p .table) (p .step) (c .lag-at .ensures)
+work-weight-requires : tie.Need-work-weight-requires
+work-weight-requires c κs = search needs
 
 returns-2 : tie.Need-returns-2
-returns-2 c =
-    let p = c .before .before .before .before .before .pre in
-    (weight-read _ _ (p .used) (p .step) (c .before .lag-at .ensures) (c .series-weight .ensures .0), c .series-weight .ensures .1)
+returns-2 c = search needs
 
 pub weight-of-spec : {M : Type 1} → statement M
 weight-of-spec =
@@ -40,6 +30,5 @@ weight-of-spec =
     mul-result
     shared-slice-read-result
     returns
-    lag-at-requires
-    series-weight-requires
+    work-weight-requires
     returns-2)

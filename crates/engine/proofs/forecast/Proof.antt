@@ -13,9 +13,7 @@ enum-told c = search needs
 
 forecast-counted-requires : tie.Need-forecast-counted-requires
 forecast-counted-requires c κs =
-    let e = c .before in
-    let k = table-accepted _ _ (e .before .before .read .ensures) (e .enum-told .given .1) in
-    record { table = k .table; held = k .counts; basins = k .basins }
+    let e = c .before in table-accepted _ _ (e .before .before .read .ensures) (e .enum-told .given .1) .counted
 
 enum-known-verdict : tie.Need-enum-known-verdict
 enum-known-verdict c = search needs

@@ -16,9 +16,7 @@ enum-told c = search needs
 
 step-counted-requires : tie.Need-step-counted-requires
 step-counted-requires c κs =
-    let e = c .before in
-    let k = table-accepted _ _ (e .before .before .read .ensures) (e .enum-told .given .1) in
-    record { table = k .table; held = k .counts; basins = k .basins }
+    let e = c .before in table-accepted _ _ (e .before .before .read .ensures) (e .enum-told .given .1) .counted
 
 enum-told-2 : tie.Need-enum-told-2
 enum-told-2 c = search needs

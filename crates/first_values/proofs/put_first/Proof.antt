@@ -1,7 +1,7 @@
 -- `put_first` meets its contract.
 use borrow.Author.Needs.{needs}
-use mathlib.Core.Path.{sym, _∙_}
-use Rattle.elements.proofs.KindLaws.{by-basin, by-reach, by-none}
+use mathlib.Core.Path.{sym}
+use Rattle.elements.proofs.KindLaws.{by-basin, by-reach, by-dam, by-none}
 use Rattle.state.specs.States.{putPlace}
 use Rattle.state.specs.Start.{firstPut}
 use Rattle.first_values.proofs.put_first.Statement.{statement}
@@ -18,15 +18,21 @@ put-rains-requires c κs = search needs
 
 returns : tie.Need-returns
 unfolding firstPut putPlace
-returns c = rw (c .put-rains .ensures, c .before .before .before .put-figures .ensures, c .before .before .before .before .first-figures .ensures) (sym (by-basin _ _ _ _ (c .before .before .match .keys1)))
+returns c = rw (c .put-rains .ensures, c .before .before .before .put-figures .ensures, c .before .before .before .before .first-figures .ensures) (sym (by-basin _ _ _ _ _ (c .before .before .match .keys1)))
 
 returns-2 : tie.Need-returns-2
 unfolding firstPut putPlace
-returns-2 c = rw (c .before .put-figures .ensures, c .before .before .first-figures .ensures) (sym (by-reach _ _ _ _ (c .match .keys2)))
+returns-2 c = rw (c .before .put-figures .ensures, c .before .before .first-figures .ensures) (sym (by-reach _ _ _ _ _ (c .match .keys2)))
 
 returns-3 : tie.Need-returns-3
 unfolding firstPut putPlace
-returns-3 c = rw (c .before .put-figures .ensures, c .before .before .first-figures .ensures) (sym (by-none _ _ _ _ (c .match .rest .0 .1) (c .match .rest .1)))
+returns-3 c = rw (c .before .put-figures .ensures, c .before .before .first-figures .ensures) (sym (by-dam _ _ _ _ _ (c .match .keys3)))
+
+returns-4 : tie.Need-returns-4
+unfolding firstPut putPlace
+returns-4 c =
+    rw (c .before .put-figures .ensures, c .before .before .first-figures .ensures)
+    (sym (by-none _ _ _ _ _ (c .match .rest .0 .0 .1) (c .match .rest .0 .1) (c .match .rest .1)))
 
 pub put-first-spec : {M : Type 1} → statement M
 put-first-spec =
@@ -37,4 +43,5 @@ put-first-spec =
     put-rains-requires
     returns
     returns-2
-    returns-3)
+    returns-3
+    returns-4)

@@ -1,12 +1,13 @@
 -- `gauges_fit` meets its contract.
 use Prim.Native.Nat.{_≤_, _-_}
 use mathlib.Core.Bool.{true}
-use mathlib.Core.Path.{_≡_, refl, sym, ap, _∙_}
+use mathlib.Core.Path.{_≡_, refl, sym, _∙_}
 use borrow.Author.Needs.{needs}
 use borrow.Author.Tests.{not-true, not-false}
 use native.Mathlib.Omega.{arith}
 use Rattle.fields.specs.Ranges.{allBelow}
 use Rattle.fields.proofs.RangeLaws.{all-none, all-more, all-fails}
+use Rattle.elements.specs.Elements.{elementAt}
 use Rattle.gauges.specs.Gauges.{gaugeAt}
 use Rattle.gauges.specs.Rules.{elementBefore, gaugeFits}
 use Rattle.gauges.proofs.GaugeLaws.{element-next}
@@ -15,7 +16,7 @@ use Rattle.gauge_rules.proofs.gauges_fit.Tie as tie
 
 abbrev Inv-loop : tie.InvT-loop
 Inv-loop table n m above₀ g₀ above g =
-    (g ≤ m) × ((allBelow (gaugeFits n (gaugeAt table n)) g ≡ true) × (above ≡ elementBefore (gaugeAt table n) g))
+    (g ≤ m) × ((allBelow (gaugeFits n (elementAt table) (gaugeAt table n)) g ≡ true) × (above ≡ elementBefore (gaugeAt table n) g))
 
 abbrev μ-loop : tie.MeasureT-loop
 μ-loop table n m above₀ g₀ above g = m - g

@@ -69,7 +69,7 @@ same-length c = search needs
 returns : tie.Need-returns
 returns c =
     let w = c .before .before .before .before in
-    held-refused _ _ (start (sized (cleared w)) .pre .0 .table .bounds) _ _ (worked-long w) (w .work-leads .ensures) (c .enum-told2 .given .1)
+    held-refused _ _ (start (sized (cleared w)) .pre .0 .counted .table .bounds) _ _ (worked-long w) (w .work-leads .ensures) (c .enum-told2 .given .1)
 
 same-length-2 : tie.Need-same-length-2
 same-length-2 c = search needs
@@ -79,7 +79,7 @@ returns-2 c =
     let w = c .before .before .before .before in
     let n = sized (cleared w) in
     let p = start n .pre in
-    held-accepted _ _ (p .0 .table .bounds) _ _ (worked-long w) (w .work-leads .ensures)
+    held-accepted _ _ (p .0 .counted .table .bounds) _ _ (worked-long w) (w .work-leads .ensures)
     (answer-size (given (p .0) (p .1 .0)) (n .before .answer-numbers .ensures .0)) (c .enum-told .given .1)
 
 pub forecast-in-spec : {M : Type 1} → statement M

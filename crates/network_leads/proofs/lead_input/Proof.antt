@@ -1,9 +1,12 @@
 -- `lead_input` meets its contract.
-use borrow.Author.Needs.{needs}
+use mathlib.Core.Path.{sym, ap, _∙_}
 use native.Mathlib.Omega.{arith}
+use borrow.Author.Needs.{needs}
+use Rattle.units.specs.declared.Discharge.{Discharge}
+use Rattle.elements.proofs.KindLaws.{by-basin, by-reach, by-dam, by-none}
 use Rattle.table.proofs.HeldLaws.{element-bounds}
-use Rattle.rain_sums.proofs.RainLaws.{sum-reach, sum-none}
-use Rattle.network_leads.proofs.InputLaws.{basin-rains, input-made, input-dry}
+use Rattle.network_leads.specs.Inputs.{ownNumber}
+use Rattle.network_leads.proofs.InputLaws.{basin-rains, input-made}
 use Rattle.network_leads.proofs.lead_input.Statement.{statement}
 use Rattle.network_leads.proofs.lead_input.Tie as tie
 
@@ -14,7 +17,7 @@ sum-of-requires : tie.Need-sum-of-requires
 sum-of-requires c κs =
     let k = c .before in
     let p = k .before .before .pre in
-    (omega (arith, p .used, p .table .bounds .elementsMost), (p .few, basin-rains _ (p .table) (p .used) _ (p .state) (k .kind-at .ensures)))
+    (omega (arith, p .used, p .table .bounds .elementsMost), (p .few, basin-rains _ (p .table) (p .used) _ (p .state) (k .kind-at .ensures) (c .match .keys1)))
 
 element-at-requires : tie.Need-element-at-requires
 element-at-requires c κs = search needs
@@ -35,34 +38,60 @@ element-at-requires-2 c κs = search needs
 input-of-requires-2 : tie.Need-input-of-requires-2
 input-of-requires-2 c κs = search needs
 
+discharge-of-requires : tie.Need-discharge-of-requires
+discharge-of-requires c κs = search needs
+
 element-at-requires-3 : tie.Need-element-at-requires-3
 element-at-requires-3 c κs = search needs
 
 input-of-requires-3 : tie.Need-input-of-requires-3
 input-of-requires-3 c κs = search needs
 
+element-at-requires-4 : tie.Need-element-at-requires-4
+element-at-requires-4 c κs = search needs
+
+input-of-requires-4 : tie.Need-input-of-requires-4
+input-of-requires-4 c κs = search needs
+
 returns : tie.Need-returns
+unfolding ownNumber
 returns c =
     let m = c .before in
     let a = m .before in
     let s = a .before in
-    let k = s .before .before in
-    input-made _ _ _ _ _ _ (a .element-at .ensures) (k .kind-at .ensures) (s .sum-of .ensures .0) (m .mean-rain-inflow .ensures)
+    let k = s .before in
+    let is = k .before .kind-at .ensures in
+    input-made _ _ _ _ _ (a .element-at .ensures)
+    (m .mean-rain-inflow .ensures ∙ rw (a .element-at .ensures, s .sum-of .ensures .0) (sym (by-basin _ _ _ _ _ (sym is ∙ k .match .keys1))))
     (c .input-of .ensures)
 
 returns-2 : tie.Need-returns-2
+unfolding ownNumber
 returns-2 c =
     let a = c .before in
-    let m = a .before in
-    input-dry _ _ _ _ _ _ (a .element-at2 .ensures) (m .before .kind-at .ensures) (sum-reach _ _ _ (m .match .keys2))
-    (c .input-of2 .ensures)
+    let k = a .before in
+    input-made _ _ _ _ _ (a .element-at2 .ensures) (sym (by-reach _ _ _ _ _ (sym (k .before .kind-at .ensures) ∙ k .match .keys2))) (c .input-of2 .ensures)
 
 returns-3 : tie.Need-returns-3
+unfolding ownNumber
 returns-3 c =
     let a = c .before in
-    let m = a .before in
-    input-dry _ _ _ _ _ _ (a .element-at3 .ensures) (m .before .kind-at .ensures)
-    (sum-none _ _ _ (m .match .rest .0 .1) (m .match .rest .1)) (c .input-of3 .ensures)
+    let d = a .before in
+    let k = d .before in
+    let is = k .before .kind-at .ensures in
+    input-made _ _ _ _ _ (a .element-at3 .ensures)
+    (ap (λ (q : Discharge). q .0) (d .discharge-of .ensures) ∙ sym (by-dam _ _ _ _ _ (sym is ∙ k .match .keys3)))
+    (c .input-of3 .ensures)
+
+returns-4 : tie.Need-returns-4
+unfolding ownNumber
+returns-4 c =
+    let a = c .before in
+    let k = a .before in
+    let is = k .before .kind-at .ensures in
+    let none = k .match .rest in
+    input-made _ _ _ _ _ (a .element-at4 .ensures)
+    (sym (by-none _ _ _ _ _ (λ b. none .0 .0 .1 (is ∙ b)) (λ r. none .0 .1 (is ∙ r)) (λ d. none .1 (is ∙ d)))) (c .input-of4 .ensures)
 
 pub lead-input-spec : {M : Type 1} → statement M
 lead-input-spec =
@@ -75,8 +104,12 @@ lead-input-spec =
     input-of-requires
     element-at-requires-2
     input-of-requires-2
+    discharge-of-requires
     element-at-requires-3
     input-of-requires-3
+    element-at-requires-4
+    input-of-requires-4
     returns
     returns-2
-    returns-3)
+    returns-3
+    returns-4)

@@ -110,7 +110,7 @@ weight-of-requires : tie.Need-weight-of-requires Inv-loop μ-loop
 weight-of-requires c κs =
     let l = turn (c .before .before) in
     let g = start l .pre .0 in
-    record { table = g .table; step = g .step; weights = g .weights; used = used l }
+    record { element = record { table = g .table; step = g .step; used = used l }; weights = g .weights }
 
 lead-input-requires : tie.Need-lead-input-requires Inv-loop μ-loop
 lead-input-requires c κs =

@@ -19,9 +19,9 @@ write-state-requires c κs =
     let p = w .before .before .before .before .before .before .before .pre in
     record {
       fits = p .0 .counted .table;
-      elements = p .0 .counted .elements;
+      elements = p .0 .counted .held .elements;
       kept = p .0 .kept;
-      room = omega (arith, p .1 .room, w .work-step .kept .1 .1 .1 .1 .1 .1 .1 .1 .0);
+      room = omega (arith, p .1 .room, w .work-step .kept .1 .1 .1 .1 .1 .1 .0);
       state = p .0 .state;
       held = w .work-step .ensures .held (known .enum-told .given .1);
     }

@@ -10,7 +10,7 @@ slice-aggregate-step-in : tie.Need-slice-aggregate-step-in
 slice-aggregate-step-in c = search needs
 
 step-in-requires : tie.Need-step-in-requires
-step-in-requires c κs = let p = c .before .before .before .before .before .pre in (p, cleared _ stepSpace (omega (arith, p .counted .elements, p .counted .table .bounds .elementsMost)))
+step-in-requires c κs = let p = c .before .before .before .before .before .pre in (p, cleared _ stepSpace (omega (arith, p .counted .held .elements, p .counted .table .bounds .elementsMost)))
 
 returns : tie.Need-returns
 returns c = search needs

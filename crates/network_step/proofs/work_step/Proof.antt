@@ -8,30 +8,27 @@ use Rattle.sizes.specs.Sizes.{mostElements}
 use Rattle.elements.specs.declared.Element.{Element}
 use Rattle.elements.specs.Elements.{elementAt}
 use Rattle.table.specs.InUse.{tableIn}
-use Rattle.table.proofs.HeldLaws.{element-there, element-bounds}
-use Rattle.table.specs.Basins.{basinsBefore}
+use Rattle.table.proofs.HeldLaws.{element-there, element-bounds, counted-table}
 use Rattle.record.specs.Records.{inputObservation}
 use Rattle.record.specs.GaugeOrder.{gaugesBefore}
-use Rattle.table.proofs.BasinLaws.{basins-none, basins-more}
 use Rattle.record.proofs.RecordLaws.{kind-read}
 use Rattle.record.proofs.GaugeOrderLaws.{gauges-none, gauges-more, gauges-most, gauge-room, observation-found}
-use Rattle.one_lead.specs.declared.ElementInput.{ElementInput}
 use Rattle.one_lead.specs.Worked.{stepLead, LeadReady}
 use Rattle.lead_walk.proofs.LeadsLaws.{work-step-refused, work-step-done}
+use Rattle.network_step.specs.declared.StepInput.{StepInput}
 use Rattle.network_step.specs.Inputs.{inputOf, stepInput}
-use Rattle.network_step.proofs.StepLaws.{rain-most, rain-room, Stepping, stepping-begin, step-ready, stepping-again, stepping-refused, stepping-done}
+use Rattle.network_step.proofs.StepLaws.{PassedBefore, passed-none, passed-more, passed-few, rain-most, rain-room, release-room, Stepping, stepping-begin, step-ready, stepping-again, stepping-refused, stepping-done}
 use Rattle.network_step.proofs.work_step.Statement.{statement}
 use Rattle.network_step.proofs.work_step.Tie as tie
 
 abbrev Inv-loop : tie.InvT-loop
-Inv-loop table n m step weights bytes observed state space₀ b₀ g₀ i₀ space b g i =
+Inv-loop table counts weights bytes observed state space₀ n passed₀ g₀ i₀ space passed g i =
     (i ≤ n)
     × ((length space ≡ length space₀)
-    × (((b ≡ basinsBefore (tableIn table) i) × (b ≤ i))
-    × ((g ≡ gaugesBefore (tableIn table) i) × Stepping table bytes state i space)))
+    × (PassedBefore (tableIn table) i passed × ((g ≡ gaugesBefore (tableIn table) i) × Stepping table bytes state i space)))
 
 abbrev μ-loop : tie.MeasureT-loop
-μ-loop table n m step weights bytes observed state space₀ b₀ g₀ i₀ space b g i = n - i
+μ-loop table counts weights bytes observed state space₀ n passed₀ g₀ i₀ space passed g i = n - i
 
 abbrev start : tie.In-loop Inv-loop μ-loop → tie.Start Inv-loop μ-loop
 start c = c .before .before .before .before .before .before
@@ -39,13 +36,13 @@ start c = c .before .before .before .before .before .before
 -- an element of the loop is in use
 module _ (c : tie.In-loop Inv-loop μ-loop) where
   used : c .before .loop .i < tableIn (start c .args .table .now) .elements
-  used = omega (arith, c .loop-test .taken, start c .pre .0 .counted .elements)
+  used = omega (arith, c .loop-test .taken, start c .pre .0 .counted .held .elements)
 
   within : c .before .loop .i < mostElements
   within = omega (arith, used, start c .pre .0 .counted .table .bounds .elementsMost)
 
-  counted : c .before .loop .b ≡ basinsBefore (tableIn (start c .args .table .now)) (c .before .loop .i)
-  counted = c .before .loop .inv .1 .1 .0 .0
+  counted : PassedBefore (tableIn (start c .args .table .now)) (c .before .loop .i) (c .before .loop .passed)
+  counted = c .before .loop .inv .1 .1 .0
 
 -- what its gauge observed
 seen :
@@ -66,30 +63,32 @@ abbrev turn : tie.After-step-input Inv-loop μ-loop → tie.In-loop Inv-loop μ-
 turn c = c .before .before .before .before
 
 abbrev input-point : tie.After-work-step-arg Inv-loop μ-loop → tie.After-step-input Inv-loop μ-loop
-input-point c = c .before .before .before
-
-abbrev worked : tie.After-basin-of Inv-loop μ-loop → tie.After-work-step Inv-loop μ-loop
-worked c = c .before .before .before .before .before
+input-point c = c .before .before .before .before
 
 -- the element that it is worked out of, as it stands in the table
 module _ (c : tie.After-step-input Inv-loop μ-loop) where
   abbrev standing : Element
   standing = elementAt (start (turn c) .args .table .now) (turn c .before .loop .i)
 
-  element-taken : c .step-input .result .element ≡ standing
+  element-taken : c .step-input .result .input .element ≡ standing
   unfolding stepInput inputOf
-  element-taken = ap (λ (x : ElementInput). x .element) (c .step-input .ensures)
+  element-taken = ap (λ (x : StepInput). x .input .element) (c .step-input .ensures)
 
-  lead-zero : c .step-input .result .«first_lead» ≡ 0
+  lead-zero : c .step-input .result .input .«first_lead» ≡ 0
   unfolding stepInput inputOf
-  lead-zero = ap (λ (x : ElementInput). x .«first_lead») (c .step-input .ensures)
+  lead-zero = ap (λ (x : StepInput). x .input .«first_lead») (c .step-input .ensures)
+
+  passed-on : PassedBefore (tableIn (start (turn c) .args .table .now)) (turn c .before .loop .i + 1) (c .step-input .result .passed)
+  unfolding stepInput
+  passed-on =
+      passed-more _ _ (counted (turn c)) (kind-read _ _ (used (turn c)) refl) (ap (λ (x : StepInput). x .passed) (c .step-input .ensures))
 
 -- it is ready to be worked out
 ready :
     (c : tie.After-work-step-arg Inv-loop μ-loop)
     → let i = input-point c in
     let l = turn i in
-    LeadReady (i .step-input .result) (stepLead (l .before .loop .i + 1) (i .step-input .result .element .down))
+    LeadReady (i .step-input .result .input) (stepLead (l .before .loop .i + 1) (i .step-input .result .input .element .down))
     (c .before .figures-of .result) (l .before .loop .space)
 ready c =
     let i = input-point c in
@@ -97,16 +96,17 @@ ready c =
     let p = start l .pre in
     let w = i .before .weight-of .ensures in
     let inv = l .before .loop .inv .1 in
-    step-ready _ _ _ _ (used l) (w .0) (counted l) (seen (observation-point i)) _ (p .0 .counted .table) (p .0 .kept) (p .0 .state) (w .1)
-    (i .step-input .ensures) (c .before .figures-of .ensures) (inv .1 .1 .1) (omega (arith, p .1 .room, p .0 .counted .elements, inv .0))
+    step-ready _ _ _ _ (used l) (w .0) (p .0 .counted .basins) (counted l) (seen (observation-point i)) _ (p .0 .counted .table) (p .0 .kept) (p .0 .state) (w .1)
+    (ap (λ (x : StepInput). x .input) (i .step-input .ensures)) (c .before .figures-of .ensures) (inv .1 .1 .1)
+    (omega (arith, p .1 .room, p .0 .counted .held .elements, inv .0))
 
 loop-holds : tie.Need-loop-holds Inv-loop μ-loop
 loop-holds c =
     let s = c .before .before .before .before in
-    (omega arith, (refl, ((basins-none _, omega arith), (gauges-none _, stepping-begin _ _ _ _ (s .pre .1 .none)))))
+    (omega arith, (refl, (passed-none _, (gauges-none _, stepping-begin _ _ _ _ (s .pre .1 .none)))))
 
 gauge-here-requires : tie.Need-gauge-here-requires Inv-loop μ-loop
-gauge-here-requires c κs = (start c .pre .0 .counted, c .loop-test .taken)
+gauge-here-requires c κs = (counted-table _ _ (start c .pre .0 .counted), c .loop-test .taken)
 
 observation-here-requires : tie.Need-observation-here-requires Inv-loop μ-loop
 observation-here-requires c κs = let l = c .before in gauge-room _ (start l .pre .0 .counted .table .bounds) _ _ (c .gauge-here .ensures .0)
@@ -115,7 +115,7 @@ weight-of-requires : tie.Need-weight-of-requires Inv-loop μ-loop
 weight-of-requires c κs =
     let l = c .before .before in
     let p = start l .pre .0 in
-    record { table = p .counted .table; step = p .step; weights = p .weights; used = used l }
+    record { element = record { table = p .counted .table; step = p .counted .held .step; used = used l }; weights = p .weights }
 
 step-input-requires : tie.Need-step-input-requires Inv-loop μ-loop
 step-input-requires c κs =
@@ -125,17 +125,19 @@ step-input-requires c κs =
     let e = element-bounds _ a (used l) in
     record {
       there = element-there _ a (used l);
-      rain = rain-room _ _ (start l .args .state .now) a (p .kept) _ (used l) (counted l);
-      rainMost = rain-most _ _ (start l .args .state .now) a (p .kept) _ (used l) (counted l);
+      rain = rain-room _ _ (start l .args .state .now) a (p .kept) _ (used l) (counted l .basins);
+      rainMost = rain-most _ _ (start l .args .state .now) a (p .kept) _ (used l) (counted l .basins);
+      release = release-room _ _ (start l .args .state .now) a (p .kept) _ (used l) (p .counted .basins) (counted l .dams);
+      few = passed-few _ _ (counted l);
       area = e .area;
       runoff = e .runoff;
     }
 
 figures-of-requires : tie.Need-figures-of-requires Inv-loop μ-loop
-figures-of-requires c κs = within (turn (c .before))
+figures-of-requires c κs = within (turn (c .before .before))
 
 add-work-step : tie.Need-add-work-step Inv-loop μ-loop
-add-work-step c = omega (arith, within (turn (c .before .before)))
+add-work-step c = omega (arith, within (turn (c .before .before .before)))
 
 work-step-requires : tie.Need-work-step-requires Inv-loop μ-loop
 work-step-requires c κs = ready c
@@ -156,15 +158,12 @@ returns c =
     let e = c .before .before .before .before in
     let i = input-point (e .before) in
     let l = turn i in
-    stepping-refused _ _ _ _ (used l) (i .before .weight-of .ensures .0) (counted l) (seen (observation-point i)) _ (l .before .loop .inv .1 .1 .1 .1)
-    _ (i .step-input .ensures) _ (e .before .before .figures-of .ensures)
+    stepping-refused _ _ _ _ (used l) (i .before .weight-of .ensures .0) (start l .pre .0 .counted .basins) (counted l) (seen (observation-point i)) _ (l .before .loop .inv .1 .1 .1 .1)
+    _ (ap (λ (x : StepInput). x .input) (i .step-input .ensures)) _ (e .before .before .figures-of .ensures)
     (work-step-refused _ _ _ _ _ _ (lead-zero i) (ready (e .before)) _ (e .work-step .ensures) (c .enum-told2 .given .1))
 
-basin-of-requires : tie.Need-basin-of-requires Inv-loop μ-loop
-basin-of-requires c κs = search needs
-
-add-b : tie.Need-add-b Inv-loop μ-loop
-add-b c = let l = turn (input-point (worked c .before)) in omega (arith, within l, l .before .loop .inv .1 .1 .0 .1, c .basin-of .ensures .1)
+abbrev worked : tie.After-passed Inv-loop μ-loop → tie.After-work-step Inv-loop μ-loop
+worked c = c .before .before .before .before .before
 
 add-g : tie.Need-add-g Inv-loop μ-loop
 add-g c =
@@ -184,23 +183,19 @@ loop-again c =
     let i = input-point (e .before) in
     let l = turn i in
     let inv = l .before .loop .inv .1 in
-    let g = observation-point i .before in
-    let a = start l .pre .0 .counted .table in
-    let taken = element-taken i in (
+    let p = start l .pre .0 .counted in
+    let g = observation-point i .before in (
       omega (arith, l .loop-test .taken),
       (
         omega (arith, e .work-step .kept .1 .1 .1 .1 .0, inv .0),
         (
-          (
-            basins-more _ _ (counted l) (c .basin-of .ensures .0) (kind-read _ _ (used l) (ap (λ (x : Element). x .kind) taken)),
-            omega (arith, inv .1 .0 .1, c .basin-of .ensures .1),
-          ),
+          passed-on i,
           (
             gauges-more _ _ (inv .1 .1 .0) (g .gauge-here .ensures .0),
-            stepping-again _ _ _ _ (used l) (i .before .weight-of .ensures .0) (counted l) (seen (observation-point i)) _ (inv .1 .1 .1)
-                _ (i .step-input .ensures) _ (e .before .before .figures-of .ensures) _ (ap (λ (x : Element). x .down) taken)
+            stepping-again _ _ _ _ (used l) (i .before .weight-of .ensures .0) (p .basins) (counted l) (seen (observation-point i)) _ (inv .1 .1 .1)
+                _ (ap (λ (x : StepInput). x .input) (i .step-input .ensures)) _ (e .before .before .figures-of .ensures) _ (ap (λ (x : Element). x .down) (element-taken i))
                 (work-step-done _ _ _ _ _ _ (lead-zero i) (ready (e .before)) _ (e .work-step .ensures) (c .before .enum-told .given .1))
-                (element-bounds _ a (used l) .later),
+                (element-bounds _ (p .table) (used l) .later),
           ),
         ),
       ),
@@ -212,7 +207,7 @@ same-length-2 c = search needs
 returns-2 : tie.Need-returns-2 Inv-loop μ-loop
 returns-2 c =
     let s = c .before .before .before .before .before .before in
-    stepping-done _ _ _ _ (c .before .loop .inv .1 .1 .1 .1) (omega (arith, s .pre .0 .counted .elements))
+    stepping-done _ _ _ _ (c .before .loop .inv .1 .1 .1 .1) (omega (arith, s .pre .0 .counted .held .elements))
 
 pub work-step-spec : {M : Type 1} → statement M
 work-step-spec =
@@ -232,8 +227,6 @@ work-step-spec =
     enum-told-2
     same-length
     returns
-    basin-of-requires
-    add-b
     add-g
     add-i
     loop-less

@@ -6,9 +6,10 @@ use native.Mathlib.Omega.{arith}
 use Rattle.sizes.specs.Sizes.{mostElements}
 use Rattle.table.specs.InUse.{tableIn}
 use Rattle.table.proofs.HeldLaws.{element-there}
-use Rattle.table.specs.Basins.{basinsBefore}
+use Rattle.elements.specs.Kinds.{basinOf}
+use Rattle.table.specs.KindCounts.{basinsBefore}
 use Rattle.record.proofs.RecordLaws.{kind-read, rain-there}
-use Rattle.table.proofs.BasinLaws.{basins-none, basins-more}
+use Rattle.table.proofs.CountLaws.{count-none, count-more}
 use Rattle.state.specs.States.{changed}
 use Rattle.state.proofs.StateLaws.{changed-none}
 use Rattle.next_state.proofs.WriteLaws.{change, written-again, written-steps, written-done}
@@ -37,7 +38,7 @@ abbrev turn : tie.After-basin-of Inv-loop μ-loop → tie.In-loop Inv-loop μ-lo
 turn c = c .before .before .before .before .before
 
 loop-holds : tie.Need-loop-holds Inv-loop μ-loop
-loop-holds c = (omega arith, ((basins-none _, omega arith), changed-none _ _))
+loop-holds c = (omega arith, ((count-none basinOf _, omega arith), changed-none _ _))
 
 kind-at-requires : tie.Need-kind-at-requires Inv-loop μ-loop
 kind-at-requires c κs = element-there _ (start c .pre .fits) (used c)
@@ -76,7 +77,7 @@ loop-again c =
     let is = k .kind-at .ensures in (
       omega (arith, l .loop-test .taken),
       (
-        (basins-more _ _ (inv .0 .0) (c .basin-of .ensures .0) (kind-read _ _ (used l) is), omega (arith, inv .0 .1, c .basin-of .ensures .1)),
+        (count-more basinOf _ _ (inv .0 .0) (c .basin-of .ensures .0) (kind-read _ _ (used l) is), omega (arith, inv .0 .1, c .basin-of .ensures .1)),
         written-again _ _ _ _ (used l) (inv .1) is (inv .0 .0) (s .before .figures-at .ensures ∙ start l .pre .held .at _ (used l)) (s .put-step .ensures),
       ),
     )

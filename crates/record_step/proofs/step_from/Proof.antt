@@ -38,8 +38,7 @@ step-on-requires c κs =
     let kept = record-kept _ _ (r .read .ensures) (known .enum-told .given .1) in
     let fits = p .0 in
     record {
-      counted = record { table = fits .table; elements = fits .held .elements; gauges = fits .held .gauges };
-      step = fits .held .step;
+      counted = fits .counted;
       weights = fits .weights;
       kept = kept;
       held = r .read .ensures .held kept;

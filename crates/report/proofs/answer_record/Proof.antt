@@ -20,8 +20,8 @@ answer-forecast-requires c κs =
     let v = w .step-from .ensures in
     record {
       weighed = p .weighed;
-      stateWhole = step-length _ _ _ _ _ v (p .weighed .table .bounds) (p .stateWhole);
-      stateKept = answered-fits _ _ _ _ (p .weighed .table .bounds) (p .stateWhole) _ v (m .enum-told .given .1);
+      stateWhole = step-length _ _ _ _ _ v (p .weighed .counted .table .bounds) (p .stateWhole);
+      stateKept = answered-fits _ _ _ _ (p .weighed .counted .table .bounds) (p .stateWhole) _ v (m .enum-told .given .1);
       spaceFull = p .spaceFull;
       digits = p .digits;
       room = p .room;

@@ -1,7 +1,7 @@
 -- `river_check` meets its contract.
 use borrow.Author.Needs.{needs}
 use native.Mathlib.Nat.{le-trans}
-use Rattle.table.proofs.BasinLaws.{basins-all}
+use Rattle.table.proofs.CountLaws.{basins-most, dams-most}
 use Rattle.table.proofs.HeldLaws.{table-accepted, table-refused}
 use Rattle.river.proofs.ReplyLaws.{plan-replied, plan-refused}
 use Rattle.river.proofs.river_check.Statement.{statement}
@@ -15,13 +15,14 @@ enum-told c = search needs
 
 plan-of-requires : tie.Need-plan-of-requires
 plan-of-requires c κs =
-    let k = table-accepted _ _ (c .before .before .read .ensures) (c .enum-told .given .1) in
+    let k = table-accepted _ _ (c .before .before .read .ensures) (c .enum-told .given .1) .counted in
     let b = k .table .bounds in
     record {
-      elements = rw (k .counts .elements) (b .elementsMost);
-      leads = rw (k .counts .leads) (b .leadsMost);
-      gauges = rw (k .counts .gauges) (b .gaugesMost);
-      basins = rw (k .basins) (le-trans (basins-all _) (b .elementsMost));
+      elements = rw (k .held .elements) (b .elementsMost);
+      leads = rw (k .held .leads) (b .leadsMost);
+      gauges = rw (k .held .gauges) (b .gaugesMost);
+      basins = rw (k .basins) (le-trans (basins-most _ _) (b .elementsMost));
+      dams = rw (k .dams) (le-trans (dams-most _ _) (b .elementsMost));
     }
 
 enum-known-verdict : tie.Need-enum-known-verdict
@@ -37,7 +38,7 @@ returns : tie.Need-returns
 returns c =
     let e = c .before in
     let k = table-accepted _ _ (e .before .before .read .ensures) (e .enum-told .given .1) in
-    plan-replied _ _ (k .kept) (c .plan-of .ensures .of _ (k .counts) (k .basins))
+    plan-replied _ _ (k .kept) (c .plan-of .ensures .of _ (k .counted .held) (k .counted .basins) (k .counted .dams))
 
 returns-2 : tie.Need-returns-2
 returns-2 c =

@@ -3,7 +3,7 @@ use borrow.Author.Needs.{needs}
 use borrow.Author.Tests.{not-true, not-false}
 use mathlib.Core.Bool.{Bool, true, false}
 use mathlib.Core.Path.{_≡_, refl, sym, ap, _∙_}
-use Rattle.elements.proofs.KindLaws.{by-basin, by-reach, by-none, kind-cases}
+use Rattle.elements.proofs.KindLaws.{by-basin, by-reach, by-dam, by-none, kind-cases}
 use Rattle.state.specs.States.{figuresOf, placeOf}
 use Rattle.state.specs.Rules.{figuresFit, placeFits}
 use Rattle.state.proofs.place_fits.Statement.{statement}
@@ -26,7 +26,7 @@ returns : tie.Need-returns
 unfolding placeFits placeOf
 returns c =
     rw (sym (figures (c .before)) ∙ not-true _ (c .if1 .taken))
-    (kind-cases (λ (fit : Bool). false ≡ fit) _ (λ _. refl) (λ _. refl) (λ _ _. refl))
+    (kind-cases (λ (fit : Bool). false ≡ fit) _ (λ _. refl) (λ _. refl) (λ _. refl) (λ _ _ _. refl))
 
 rains-of-requires : tie.Need-rains-of-requires
 rains-of-requires c κs = search needs
@@ -42,15 +42,19 @@ returns-2 : tie.Need-returns-2
 unfolding placeFits placeOf
 returns-2 c =
     let m = c .before .before in
-    rw (c .rains-fit .ensures, c .before .rains-of .ensures, fitting (m .before)) (sym (by-basin _ _ _ _ (m .match .keys1)))
+    rw (c .rains-fit .ensures, c .before .rains-of .ensures, fitting (m .before)) (sym (by-basin _ _ _ _ _ (m .match .keys1)))
 
 returns-3 : tie.Need-returns-3
 unfolding placeFits placeOf
-returns-3 c = rw (fitting (c .before)) (sym (by-reach _ _ _ _ (c .match .keys2)))
+returns-3 c = rw (fitting (c .before)) (sym (by-reach _ _ _ _ _ (c .match .keys2)))
 
 returns-4 : tie.Need-returns-4
+unfolding placeFits placeOf
+returns-4 c = rw (fitting (c .before)) (sym (by-dam _ _ _ _ _ (c .match .keys3)))
+
+returns-5 : tie.Need-returns-5
 unfolding placeFits
-returns-4 c = sym (by-none _ _ _ _ (c .match .rest .0 .1) (c .match .rest .1))
+returns-5 c = sym (by-none _ _ _ _ _ (c .match .rest .0 .0 .1) (c .match .rest .0 .1) (c .match .rest .1))
 
 pub place-fits-spec : {M : Type 1} → statement M
 place-fits-spec =
@@ -63,4 +67,5 @@ place-fits-spec =
     rains-fit-requires
     returns-2
     returns-3
-    returns-4)
+    returns-4
+    returns-5)

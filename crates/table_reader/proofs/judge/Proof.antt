@@ -15,8 +15,6 @@ use Rattle.table.specs.Tables.{tableOf}
 use Rattle.table.specs.Rules.{elementsFit, downsFit, gaugesFit, tableRules}
 use Rattle.table.proofs.TableLaws.{
   HeaderKept,
-  kept,
-  broken,
   header-left,
   rulesLeft,
   counts-bounds,
@@ -24,7 +22,9 @@ use Rattle.table.proofs.TableLaws.{
   downs-judged,
   gauges-judged,
 }
-use Rattle.table.proofs.BasinLaws.{all-counted}
+use Rattle.elements.specs.Kinds.{basinOf, damOf}
+use Rattle.fields.proofs.RangeLaws.{kept, broken}
+use Rattle.table.proofs.CountLaws.{all-counted}
 use Rattle.table.proofs.HeldLaws.{header-whole, all-there, refused-read}
 use Rattle.table_reader.proofs.judge.Statement.{statement}
 use Rattle.table_reader.proofs.judge.Tie as tie
@@ -183,7 +183,8 @@ returns-7 c =
     record {
       verdict = rw (left (j .before), fits four, kept (later four) (five .if5 .left), kept (gauges (c .before)) (c .if6 .left));
       counts = λ _. record { step = held .step; leads = held .leads; elements = held .elements; gauges = held .gauges };
-      basins = λ _. all-counted _ (held .elements) (j .judge-elements .ensures .basins (not-false _ (four .if4 .left)));
+      basins = λ _. all-counted basinOf _ (held .elements) (j .judge-elements .ensures .basins (not-false _ (four .if4 .left)));
+      dams = λ _. all-counted damOf _ (held .elements) (j .judge-elements .ensures .dams (not-false _ (four .if4 .left)));
     }
 
 pub judge-spec : {M : Type 1} → statement M

@@ -10,62 +10,93 @@ use Rattle.fields.specs.Ranges.{allBelow}
 use Rattle.fields.proofs.RangeLaws.{all-none, all-more, all-fails}
 use Rattle.elements.specs.declared.Element.{Element}
 use Rattle.elements.specs.Elements.{elementAt}
+use Rattle.elements.specs.Kinds.{basinOf, damOf}
 use Rattle.elements.specs.Rules.{elementFits, downFits}
+use Rattle.element_rules.specs.Judged.{judged}
+use Rattle.element_rules.proofs.JudgedLaws.{refused-said, basin-said, reach-said, dam-said}
 use Rattle.table.specs.Tables.{tableOf}
-use Rattle.table.specs.Basins.{basinsBefore}
-use Rattle.table.proofs.BasinLaws.{basins-none, basins-more}
+use Rattle.table.specs.KindCounts.{basinsBefore, damsBefore}
+use Rattle.table.proofs.CountLaws.{count-none, count-more, basins-most, dams-most}
 use Rattle.table_reader.proofs.judge_elements.Statement.{statement}
 use Rattle.table_reader.proofs.judge_elements.Tie as tie
 
 abbrev Inv-loop : tie.InvT-loop
-Inv-loop table step n later₀ basins₀ i₀ later basins i =
-    ((i ≤ n) × (basins ≤ i))
+Inv-loop table step n later₀ basins₀ dams₀ i₀ later basins dams i =
+    ((i ≤ n) × ((basins ≤ i) × (dams ≤ i)))
     × ((allBelow (λ k. elementFits step (elementAt table k)) i ≡ true)
-    × ((later ≡ allBelow (downFits n (elementAt table)) i) × (basins ≡ basinsBefore (tableOf table) i)))
+    × ((later ≡ allBelow (downFits n (elementAt table)) i)
+    × ((basins ≡ basinsBefore (tableOf table) i) × (dams ≡ damsBefore (tableOf table) i))))
 
 abbrev μ-loop : tie.MeasureT-loop
-μ-loop table step n later₀ basins₀ i₀ later basins i = n - i
+μ-loop table step n later₀ basins₀ dams₀ i₀ later basins dams i = n - i
 
--- rule 5 on the element that was read
-fits :
-    (c : tie.After-element-fits Inv-loop μ-loop)
+-- what rule 5 says of the element that was read
+judged-is :
+    (c : tie.After-judge-element Inv-loop μ-loop)
     → let l = c .before .before in
     let s = l .before .before .before in
-    c .element-fits .result ≡ elementFits (s .args .step) (elementAt (s .args .table .now) (l .before .loop .i))
-fits c = c .element-fits .ensures ∙ ap (elementFits _) (c .before .element-at .ensures)
-
--- a test that holds leaves what was joined before it
-joined-true : (all one : Bool) → one ≡ true → all ≡ (all && one)
-joined-true true one e = sym e
-joined-true false one e = refl
+    c .judge-element .result ≡ judged (s .args .step) (elementAt (s .args .table .now) (l .before .loop .i))
+judged-is c = c .judge-element .ensures ∙ ap (judged _) (c .before .element-at .ensures)
 
 loop-holds : tie.Need-loop-holds Inv-loop μ-loop
-loop-holds c = ((omega arith, omega arith), (sym (all-none _), (all-none _, basins-none _)))
+loop-holds c = ((omega arith, (omega arith, omega arith)), (sym (all-none _), (all-none _, (count-none _ _, count-none _ _))))
 
 element-at-requires : tie.Need-element-at-requires Inv-loop μ-loop
 element-at-requires c κs = search needs
 
-element-fits-requires : tie.Need-element-fits-requires Inv-loop μ-loop
-element-fits-requires c κs = search needs
+judge-element-requires : tie.Need-judge-element-requires Inv-loop μ-loop
+judge-element-requires c κs = search needs
+
+enum-told : tie.Need-enum-told Inv-loop μ-loop
+enum-told c = search needs
 
 returns : tie.Need-returns Inv-loop μ-loop
 returns c =
-    let f = c .before in
-    let l = f .before .before in
+    let j = c .before .before in
+    let l = j .before .before in
     record {
-      fit = sym (all-fails _ _ _ (l .loop-test .taken) (sym (fits f) ∙ not-true _ (c .if1 .taken)));
+      fit = sym (all-fails _ _ _ (l .loop-test .taken) (refused-said _ _ (judged-is j) (c .enum-told .given .1)));
       later = λ e. absurd (true≢false (sym e));
       basins = λ e. absurd (true≢false (sym e));
+      dams = λ e. absurd (true≢false (sym e));
     }
+
+enum-told-2 : tie.Need-enum-told-2 Inv-loop μ-loop
+enum-told-2 c = search needs
+
+add-basins : tie.Need-add-basins Inv-loop μ-loop
+add-basins c = search needs
+
+enum-told-3 : tie.Need-enum-told-3 Inv-loop μ-loop
+enum-told-3 c = search needs
+
+enum-told-4 : tie.Need-enum-told-4 Inv-loop μ-loop
+enum-told-4 c = search needs
+
+add-dams : tie.Need-add-dams Inv-loop μ-loop
+add-dams c = search needs
 
 down-fits-requires : tie.Need-down-fits-requires Inv-loop μ-loop
 down-fits-requires c κs = search needs
 
-basin-of-requires : tie.Need-basin-of-requires Inv-loop μ-loop
-basin-of-requires c κs = search needs
+-- it is kept, and counted
+module _ (c : tie.At-match-came Inv-loop μ-loop) where
+  abbrev j : tie.After-judge-element Inv-loop μ-loop
+  j = c .before
 
-add-basins : tie.Need-add-basins Inv-loop μ-loop
-add-basins c = search needs
+  abbrev l : tie.In-loop Inv-loop μ-loop
+  l = j .before .before
+
+  abbrev e : Element
+  e = elementAt (l .before .before .before .args .table .now) (l .before .loop .i)
+
+  counted :
+      (elementFits (l .before .before .before .args .step) e ≡ true)
+      × ((c .match .basins ≡ l .before .loop .basins + basinOf (e .kind)) × (c .match .dams ≡ l .before .loop .dams + damOf (e .kind)))
+  counted =
+      ⊎-elim (λ w. let k = basin-said _ _ (judged-is j) (w .1 .given .1) in (k .fits, (omega (arith, k .basins, w .2), omega (arith, k .dams, w .3))))
+      (λ v. ⊎-elim (λ w. let k = reach-said _ _ (judged-is j) (w .1 .given .1) in (k .fits, (omega (arith, k .basins, w .2), omega (arith, k .dams, w .3))))
+      (λ w. let k = dam-said _ _ (judged-is j) (w .1 .given .1) in (k .fits, (omega (arith, k .basins, w .2), omega (arith, k .dams, w .3)))) v) (c .match .came)
 
 add-i : tie.Need-add-i Inv-loop μ-loop
 add-i c = search needs
@@ -73,31 +104,36 @@ add-i c = search needs
 loop-less : tie.Need-loop-less Inv-loop μ-loop
 loop-less c = search needs
 
+-- a test that holds leaves what was joined before it
+joined-true : (all one : Bool) → one ≡ true → all ≡ (all && one)
+joined-true true one e = sym e
+joined-true false one e = refl
+
 -- rule 6 on the elements so far
 later :
-    (c : tie.Joined2 Inv-loop μ-loop)
-    → let l = c .before .before .before .before .before in
-    let s = l .before .before .before in
-    c .if2 .later ≡ allBelow (downFits (s .args .n) (elementAt (s .args .table .now))) (l .before .loop .i + 1)
+    (c : tie.Joined1 Inv-loop μ-loop)
+    → let t = l (c .before .before) in
+    let s = t .before .before .before in
+    c .if1 .later ≡ allBelow (downFits (s .args .n) (elementAt (s .args .table .now))) (t .before .loop .i + 1)
 later c =
     let d = c .before in
-    let inv = d .before .before .before .before .before .loop .inv in
+    let t = l (d .before) in
     ⊎-elim (λ w. w .1 ∙ sym (all-fails _ _ _ (omega arith) (sym (d .down-fits .ensures) ∙ not-true _ (w .0 .taken))))
-    (λ w. w .1 ∙ (joined-true _ _ (not-false _ (w .0 .left)) ∙ all-more _ _ (inv .1 .1 .0) (d .down-fits .ensures))) (c .if2 .came)
+    (λ w. w .1 ∙ (joined-true _ _ (not-false _ (w .0 .left)) ∙ all-more _ _ (t .before .loop .inv .1 .1 .0) (d .down-fits .ensures))) (c .if1 .came)
 
 loop-again : tie.Need-loop-again Inv-loop μ-loop
 unfolding tableOf
 loop-again c =
-    let d = c .before .before in
-    let e = d .before in
-    let f = e .before in
-    let l = f .before .before in
-    let inv = l .before .loop .inv in (
-      (omega (arith, l .loop-test .taken), omega (arith, c .basin-of .ensures .1)),
-      (
-        sym (all-more _ _ (sym (inv .1 .0)) (sym (not-false _ (e .if1 .left)) ∙ fits f)),
-        (later (c .before), basins-more _ _ (inv .1 .1 .1) (c .basin-of .ensures .0) (ap (λ (x : Element). x .kind) (f .before .element-at .ensures))),
-      ),
+    let m = c .before .before in
+    let t = l m in
+    let inv = t .before .loop .inv in
+    let k = counted m in
+    let values = tableOf (t .before .before .before .args .table .now) in
+    let i = t .before .loop .i in
+    let basins = k .1 .0 ∙ count-more basinOf values i (inv .1 .1 .1 .0) refl refl in
+    let dams = k .1 .1 ∙ count-more damOf values i (inv .1 .1 .1 .1) refl refl in (
+      (omega (arith, t .loop-test .taken), (omega (arith, basins, basins-most values (i + 1)), omega (arith, dams, dams-most values (i + 1)))),
+      (sym (all-more _ _ (sym (inv .1 .0)) (sym (k .0))), (later c, (basins, dams))),
     )
 
 returns-2 : tie.Need-returns-2 Inv-loop μ-loop
@@ -107,7 +143,8 @@ returns-2 c =
     record {
       fit = sym (rw e at (inv .1 .0));
       later = λ _. inv .1 .1 .0 ∙ ap (allBelow _) e;
-      basins = λ _. inv .1 .1 .1 ∙ ap (basinsBefore _) e;
+      basins = λ _. inv .1 .1 .1 .0 ∙ ap (basinsBefore _) e;
+      dams = λ _. inv .1 .1 .1 .1 ∙ ap (damsBefore _) e;
     }
 
 pub judge-elements-spec : {M : Type 1} → statement M
@@ -118,11 +155,15 @@ judge-elements-spec =
     μ-loop
     loop-holds
     element-at-requires
-    element-fits-requires
+    judge-element-requires
+    enum-told
     returns
-    down-fits-requires
-    basin-of-requires
+    enum-told-2
     add-basins
+    enum-told-3
+    enum-told-4
+    add-dams
+    down-fits-requires
     add-i
     loop-less
     loop-again

@@ -1,7 +1,7 @@
 -- `read` meets its contract.
 use borrow.Author.Needs.{needs}
 use Rattle.table.specs.Rules.{tableRules}
-use Rattle.table.proofs.TableLaws.{kept, broken}
+use Rattle.fields.proofs.RangeLaws.{kept, broken}
 use Rattle.table.proofs.HeldLaws.{header-whole, refused-read}
 use Rattle.table_reader.proofs.read.Statement.{statement}
 use Rattle.table_reader.proofs.read.Tie as tie

@@ -1,0 +1,22 @@
+-- Document 01, The table: "kind (1; 1 basin, 2 reach)"; document 02, M-100: "kind 3, a dam". How many basins and dams a table has.
+use Prim.Native.Nat.{ℕ, zero, suc, _+_}
+use Rattle.elements.specs.Kinds.{basinOf, damOf}
+use Rattle.table.specs.Tables.{TableValues}
+
+-- among the first i elements, by what a kind counts
+unfoldable pub countBefore : (ℕ → ℕ) → TableValues → ℕ → ℕ
+countBefore of t zero = 0
+countBefore of t (suc i) = countBefore of t i + of (t .element i .kind)
+
+abbrev pub basinsBefore : TableValues → ℕ → ℕ
+basinsBefore t i = countBefore basinOf t i
+
+abbrev pub damsBefore : TableValues → ℕ → ℕ
+damsBefore t i = countBefore damOf t i
+
+-- in all
+abbrev pub basinCount : TableValues → ℕ
+basinCount t = basinsBefore t (t .elements)
+
+abbrev pub damCount : TableValues → ℕ
+damCount t = damsBefore t (t .elements)
