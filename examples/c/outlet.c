@@ -1,7 +1,7 @@
 /* Follows a river's outlet through a flood: for each accepted step one line for the last element, with its highest forecast.
  *
  *   outlet FILE      FILE holds a table and its records, as the printing program reads them from standard input
- * A refused call prints its number (document 01, "Numbers for no"). The exit status is 0 where nothing was refused, else 1.
+ * A refused call prints its number (river.h). The exit status is 0 where nothing was refused, else 1.
  */
 #include <inttypes.h>
 #include <stdio.h>
