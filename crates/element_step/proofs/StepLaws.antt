@@ -1,6 +1,6 @@
 -- Laws of the step of one element: rule 16 on its inflow, its move and its correction, one after the other; each kind.
 use Prim.Native.Nat.{ℕ, _≤_}
-use mathlib.Core.List.{[], append-assoc, append-nil}
+use mathlib.Core.List.{append-assoc, append-nil}
 use mathlib.Core.Path.{_≡_, sym, ap, _∙_}
 use native.Mathlib.Omega.{arith}
 use Rattle.refusal.specs.Answers.{Answer, accepted, refused}
@@ -13,7 +13,7 @@ use Rattle.method.specs.declared.Figures.{Figures}
 use Rattle.method.specs.declared.FiguresAnswer.{FiguresAnswer}
 use Rattle.method.specs.declared.FiguresAnswer.the-variants.{Accepted, Refused}
 use Rattle.method.specs.Figures.{variance, figureNumbers, figuresAnswer, FiguresFit}
-use Rattle.method.specs.Inflow.{noInflow, inflowAnswer}
+use Rattle.method.specs.Inflow.{inflowAnswer}
 use Rattle.method.specs.Routing.{routedDischarge, routingAnswer}
 use Rattle.method.proofs.FiguresLaws.{figures-under}
 use Rattle.routing.specs.Parts.{partsAnswer, routedAnswer}
@@ -85,7 +85,33 @@ module _ (H : ℕ) (e : Element) (o : Observation) (inflow old : Figures) where
   unfolding storedAnswer storedNumbers stored moveNumbers movedAnswer correctedBy observationNumbers
   move-alone n = rw (n, append-nil)
 
--- each kind
+-- what each kind decides: the new figures, and the numbers of 16
+module _ (H : ℕ) (e : Element) (own : Figures) (o : Observation) (above old : Figures) where
+  basin-steps : e .kind ≡ basin → elementStep H e own o above old ≡ stored H e o own old
+  unfolding elementStep
+  basin-steps k = by-basin (e .kind) _ _ _ _ k
+
+  basin-judged : e .kind ≡ basin → elementNumbers H e own o above old ≡ storedNumbers H e o own old
+  unfolding elementNumbers
+  basin-judged k = by-basin (e .kind) _ _ _ _ k
+
+  reach-steps : e .kind ≡ reach → elementStep H e own o above old ≡ stored H e o above old
+  unfolding elementStep
+  reach-steps k = by-reach (e .kind) _ _ _ _ k
+
+  reach-judged : e .kind ≡ reach → elementNumbers H e own o above old ≡ storedNumbers H e o above old
+  unfolding elementNumbers
+  reach-judged k = by-reach (e .kind) _ _ _ _ k
+
+  dam-steps : e .kind ≡ dam → elementStep H e own o above old ≡ own
+  unfolding elementStep
+  dam-steps k = by-dam (e .kind) _ _ _ _ k
+
+  dam-judged : e .kind ≡ dam → elementNumbers H e own o above old ≡ figureNumbers own
+  unfolding elementNumbers
+  dam-judged k = by-dam (e .kind) _ _ _ _ k
+
+-- so what it answers
 module _ (H : ℕ) (e : Element) (intake : Intake) (old : Figures) where
   abbrev own : Figures
   own = ownAt e (intake .own) (intake .lead)
@@ -93,27 +119,28 @@ module _ (H : ℕ) (e : Element) (intake : Intake) (old : Figures) where
   abbrev o : Observation
   o = intake .observation
 
+  abbrev above : Figures
+  above = intake .above
+
+  own-basin : e .kind ≡ basin → own ≡ basinInflow (intake .own) (intake .lead) (e .«rain_noise» .0)
+  unfolding ownAt ownOf
+  own-basin k = by-basin (e .kind) _ _ _ _ k
+
+  own-dam : e .kind ≡ dam → own ≡ released e (intake .own)
+  unfolding ownAt ownOf
+  own-dam k = by-dam (e .kind) _ _ _ _ k
+
   pub basin-answered :
       e .kind ≡ basin
       → {lead : ℕ}
       → lead ≡ intake .lead
       → storedAnswer H e o (basinInflow (intake .own) lead (e .«rain_noise» .0)) old ≡ elementAnswer H e intake old
-  unfolding elementAnswer storedAnswer elementNumbers elementStep ownAt ownOf
-  basin-answered k l =
-      rw (
-        l,
-        by-basin (e .kind) (storedNumbers H e o own old) (storedNumbers H e o (intake .above) old) (figureNumbers own) [] k,
-        by-basin (e .kind) (stored H e o own old) (stored H e o (intake .above) old) own noInflow k,
-        by-basin (e .kind) (basinInflow (intake .own) (intake .lead) (e .«rain_noise» .0)) noInflow (released e (intake .own)) noInflow k,
-      )
+  unfolding elementAnswer storedAnswer
+  basin-answered k l = rw (l, basin-judged H e own o above old k, basin-steps H e own o above old k, own-basin k)
 
   pub reach-answered : e .kind ≡ reach → storedAnswer H e o (intake .above) old ≡ elementAnswer H e intake old
-  unfolding elementAnswer storedAnswer elementNumbers elementStep ownAt ownOf
-  reach-answered k =
-      rw (
-        by-reach (e .kind) (storedNumbers H e o own old) (storedNumbers H e o (intake .above) old) (figureNumbers own) [] k,
-        by-reach (e .kind) (stored H e o own old) (stored H e o (intake .above) old) own noInflow k,
-      )
+  unfolding elementAnswer storedAnswer
+  reach-answered k = rw (reach-judged H e own o above old k, reach-steps H e own o above old k)
 
   -- a dam's figures are in their ranges
   released-fit : intake .own ≤ C → e .«system_noise» .0 ≤ C → FiguresFit (released e (intake .own))
@@ -125,14 +152,9 @@ module _ (H : ℕ) (e : Element) (intake : Intake) (old : Figures) where
       → intake .own ≤ C
       → e .«system_noise» .0 ≤ C
       → (accepted (released e (intake .own)) ≡ elementAnswer H e intake old) × FiguresFit (released e (intake .own))
-  unfolding elementAnswer elementNumbers elementStep ownAt ownOf
+  unfolding elementAnswer
   dam-answered k q w =
       let fit = released-fit q w in (
-        rw (
-          by-dam (e .kind) (storedNumbers H e o own old) (storedNumbers H e o (intake .above) old) (figureNumbers own) [] k,
-          by-dam (e .kind) (stored H e o own old) (stored H e o (intake .above) old) own noInflow k,
-          by-dam (e .kind) (basinInflow (intake .own) (intake .lead) (e .«rain_noise» .0)) noInflow (released e (intake .own)) noInflow k,
-        )
-            (under-accepted _ _ (figures-under _ fit)),
+        rw (dam-judged H e own o above old k, dam-steps H e own o above old k, own-dam k) (under-accepted _ _ (figures-under _ fit)),
         fit,
       )
