@@ -17,24 +17,25 @@ use Rattle.element_rules.specs.Judged.{kindOf, judgedKind, judged, fitsO
 
 module _ (T : ℕ) (e : Element) where
   -- the fields that each kind chooses
-  module _ (k : e .kind ≡ basin) where
-    pub basin-judged : {fits : Bool} → fits ≡ (lagFits T e && basinFits e) → cond fits Basin Refused ≡ judgedKind T e
-    unfolding judgedKind kindFits
-    basin-judged f = rw (f, by-basin (e .kind) (lagFits T e && basinFits e) (lagFits T e && reachFits e) (damFits e) false k, by-basin (e .kind) Basin Reach Dam Refused k)
+  judged-as : {fits : Bool} {kind : JudgedElement} → kindFits T e ≡ fits → kindOf e ≡ kind → cond fits kind Refused ≡ judgedKind T e
+  unfolding judgedKind
+  judged-as f k = rw (f, k)
 
-  module _ (k : e .kind ≡ reach) where
-    pub reach-judged : {fits : Bool} → fits ≡ (lagFits T e && reachFits e) → cond fits Reach Refused ≡ judgedKind T e
-    unfolding judgedKind kindFits
-    reach-judged f = rw (f, by-reach (e .kind) (lagFits T e && basinFits e) (lagFits T e && reachFits e) (damFits e) false k, by-reach (e .kind) Basin Reach Dam Refused k)
+  pub basin-judged : e .kind ≡ basin → {fits : Bool} → fits ≡ (lagFits T e && basinFits e) → cond fits Basin Refused ≡ judgedKind T e
+  unfolding kindFits
+  basin-judged k f = judged-as (by-basin (e .kind) _ _ _ _ k ∙ sym f) (by-basin (e .kind) _ _ _ _ k)
 
-  module _ (k : e .kind ≡ dam) where
-    pub dam-judged : {fits : Bool} → fits ≡ damFits e → cond fits Dam Refused ≡ judgedKind T e
-    unfolding judgedKind kindFits
-    dam-judged f = rw (f, by-dam (e .kind) (lagFits T e && basinFits e) (lagFits T e && reachFits e) (damFits e) false k, by-dam (e .kind) Basin Reach Dam Refused k)
+  pub reach-judged : e .kind ≡ reach → {fits : Bool} → fits ≡ (lagFits T e && reachFits e) → cond fits Reach Refused ≡ judgedKind T e
+  unfolding kindFits
+  reach-judged k f = judged-as (by-reach (e .kind) _ _ _ _ k ∙ sym f) (by-reach (e .kind) _ _ _ _ k)
+
+  pub dam-judged : e .kind ≡ dam → {fits : Bool} → fits ≡ damFits e → cond fits Dam Refused ≡ judgedKind T e
+  unfolding kindFits
+  dam-judged k f = judged-as (by-dam (e .kind) _ _ _ _ k ∙ sym f) (by-dam (e .kind) _ _ _ _ k)
 
   pub none-judged : e .kind ≢ basin → e .kind ≢ reach → e .kind ≢ dam → Refused ≡ judgedKind T e
-  unfolding judgedKind kindFits
-  none-judged p q r = rw (by-none (e .kind) (lagFits T e && basinFits e) (lagFits T e && reachFits e) (damFits e) false p q r)
+  unfolding kindFits
+  none-judged p q r = judged-as (by-none (e .kind) _ _ _ _ p q r) (by-none (e .kind) _ _ _ _ p q r)
 
   -- what the answer says
   known : elementFits T e ≡ true → IsKind (e .kind)

@@ -34,7 +34,7 @@ unfoldable pub stored : ℕ → Element → Observation → Figures → Figures 
 stored H e o inflow old = correctedBy o (moved H e inflow old)
 
 -- the new figures of any element, from what it has of its own, an observation, what drains into it, and its old figures: a basin takes its
--- own inflow, a reach what drains in; M-100: "water draining into [a dam] ends there"
+-- own inflow, a reach what drains in; a dam lets out what it has of its own, M-100: "water draining into it ends there"
 unfoldable pub elementStep : ℕ → Element → Figures → Observation → Figures → Figures → Figures
 elementStep H e own o above old = byKind (e .kind) (stored H e o own old) (stored H e o above old) own noInflow
 
@@ -51,6 +51,6 @@ moveNumbers H e o inflow old =
 unfoldable pub storedNumbers : ℕ → Element → Observation → Figures → Figures → List ℕ
 storedNumbers H e o inflow old = inflowNumbers inflow ++ moveNumbers H e o inflow old
 
--- M-100: "a dam has no inflow, for rule 16 either": its discharge and variance alone
+-- M-100: "a dam has no inflow, for rule 16 either": its discharge, its variance and their margins alone
 unfoldable pub elementNumbers : ℕ → Element → Figures → Observation → Figures → Figures → List ℕ
 elementNumbers H e own o above old = byKind (e .kind) (storedNumbers H e o own old) (storedNumbers H e o above old) (figureNumbers own) []

@@ -1,5 +1,5 @@
-// One element at a step or a lead: its inflow by its kind, its move, its correction by a reading; a basin's rains after a step. A step and
-// a lead have functions of their own, and each is called once, so that the compiler puts them into their callers.
+// One element at a step or a lead: its inflow by its kind, its move, its correction by a reading, a dam's release; a basin's rains after a
+// step. A step and a lead have functions of their own, so that the compiler puts them into their callers.
 ghost use mathlib.Core.Logic.{_≢_};
 ghost use mathlib.Core.Path.{_≡_};
 ghost use Prim.Native.Nat.{_≤_};

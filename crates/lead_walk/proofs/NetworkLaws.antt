@@ -22,7 +22,7 @@ use Rattle.network.proofs.NumbersLaws.{cellNumbers, element-part, numbers-none,
 use Rattle.answer_space.specs.Places.{figuresAt, mostSum, FiguresBelow}
 use Rattle.answer_space.proofs.PlacesLaws.{same-element}
 use Rattle.one_lead.specs.declared.ElementInput.{ElementInput}
-use Rattle.one_lead.specs.Leads.{leadOwn, leadStep, leadStepNumbers}
+use Rattle.one_lead.specs.Leads.{ownAtLead, leadStep, leadStepNumbers}
 use Rattle.lead_walk.specs.Leads.{figuresAfter, numbersAfter}
 use Rattle.lead_walk.specs.Worked.{drainedAt, LeadsDone}
 use Rattle.lead_walk.proofs.LeadsLaws.{part-of, all-parts}
@@ -54,7 +54,7 @@ below-most f b m h l =
 
 -- ---- the walk
 
--- own inflows and old figures by lead and element, observations by element; places of w leads an element, the first at `from`
+-- what each element has of its own and its old figures by lead and element, observations by element; places of w leads an element, the first at `from`
 module _ (t : TableValues) (own : ℕ → ℕ → Figures) (o : ℕ → Observation) (old : ℕ → ℕ → Figures) (w from : ℕ) where
   -- what stands at the place of element number k at a lead
   abbrev pub placeAt : ℕ → List ℕ → ℕ → Figures
@@ -126,7 +126,7 @@ module _ (t : TableValues) (own : ℕ → ℕ → Figures) (o : ℕ → Observat
     pub element : c .element ≡ t .element i
     pub weight : c .weight ≡ weightOf t i
     pub observation : c .observation ≡ o i
-    pub ownPart : (l : ℕ) → l < leads → leadOwn c (c .«first_lead» + l) ≡ own l i
+    pub ownPart : (l : ℕ) → l < leads → ownAtLead c (c .«first_lead» + l) ≡ own l i
 
   module _ (c : ElementInput) (i leads : ℕ) (of : InputOf c i leads) where
     step-same :

@@ -39,7 +39,7 @@ module _ (t : TableValues) (own : ℕ → Figures) (o : ℕ → Observation) (ol
 
 -- of the leads of a forecast
 module _ (t : TableValues) (s : State) where
-  -- the own inflows of lead l + 1, and the figures there
+  -- what each element has of its own at lead l + 1, and the figures there
   abbrev pub leadOwn : ℕ → ℕ → Figures
   leadOwn l = forecastOwn t s (suc l)
 

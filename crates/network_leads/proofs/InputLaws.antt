@@ -22,9 +22,9 @@ use Rattle.state.specs.Bounds.{RainsUnder, StateBounds}
 use Rattle.element_step.specs.Bounds.{ElementInRange}
 use Rattle.network.specs.Step.{weightOf, noObservation}
 use Rattle.network.specs.Forecast.{rainCount, rainSum, leadInflow, forecastOwn, leadFigures}
-use Rattle.network.proofs.NumbersLaws as network-leads
+use Rattle.network.proofs.NumbersLaws.{leadOwn}
 use Rattle.one_lead.specs.declared.ElementInput.{ElementInput}
-use Rattle.one_lead.specs.Leads.{leadOwn}
+use Rattle.one_lead.specs.Leads.{ownAtLead}
 use Rattle.element_step.specs.ElementStep.{ownOf}
 use Rattle.element_step.specs.Answers.{ownAt}
 use Rattle.one_lead.specs.Worked.{InputInRange}
@@ -85,7 +85,7 @@ rain-held t s i l count few = let n : 1 + l ≡ suc l = omega arith in rw (n, fe
 own-held :
     (t : TableValues) (s : State) (i l weight count : ℕ)
     → count ≡ rainCount (stepsOf s)
-    → leadOwn (leadInput (t .element i) weight count s i) (1 + l) ≡ forecastOwn t s (suc l) i
+    → ownAtLead (leadInput (t .element i) weight count s i) (1 + l) ≡ forecastOwn t s (suc l) i
 unfolding leadInput ownNumber ownAt forecastOwn ownOf
 own-held t s i l weight count few =
     let e = t .element i in
@@ -103,7 +103,7 @@ module _ (bytes : List ℕ) (s : State) (i : ℕ) (used : i < tableIn bytes .ele
       (weight count leads w : ℕ)
       → weight ≡ weightOf t i
       → count ≡ rainCount (stepsOf s)
-      → InputOf t (network-leads.leadOwn t s) noObservation (leadFigures t s) w 1 (leadInput (elementAt bytes i) weight count s i) i leads
+      → InputOf t (leadOwn t s) noObservation (leadFigures t s) w 1 (leadInput (elementAt bytes i) weight count s i) i leads
   unfolding leadInput noObservation
   input-of weight count leads w is few =
       record {

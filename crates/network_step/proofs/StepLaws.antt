@@ -48,7 +48,7 @@ use Rattle.walk.specs.Space.{Later}
 use Rattle.network.specs.Step.{weightOf, networkDown, newFigures, networkNumbers, stepOwn, observedIn, stepFigures, stepped, stepNumbers}
 use Rattle.answer_space.specs.Places.{figuresAt, mostSum, FiguresBelow}
 use Rattle.one_lead.specs.declared.ElementInput.{ElementInput}
-use Rattle.one_lead.specs.Leads.{leadOwn}
+use Rattle.one_lead.specs.Leads.{ownAtLead}
 use Rattle.one_lead.specs.Worked.{stepLead, LeadReady}
 use Rattle.lead_walk.specs.Leads.{numbersAfter}
 use Rattle.lead_walk.specs.Worked.{drainedAt, LeadsDone, ElementWorked}
@@ -239,7 +239,7 @@ module _ (table bytes : List ℕ) (s : State) where
     abbrev taken : ElementInput
     taken = stepInput table i weight bytes b passed seen .input
 
-    own-is : (lead : ℕ) → lead < 1 → leadOwn taken (0 + lead) ≡ stepOwn t (inputAt t bytes) i
+    own-is : (lead : ℕ) → lead < 1 → ownAtLead taken (0 + lead) ≡ stepOwn t (inputAt t bytes) i
     unfolding stepOwn stepInput inputOf ownNumber inputAt inputRain rainOf inputRelease releaseOf
     own-is lead m =
         rw (← element-read table i l, counted .basins, counted .dams, all) (own-same (t .element i) _ _ lead m)

@@ -53,6 +53,7 @@ struct StepInput {
     passed: Passed,
 }
 
+// The same of an element's input, and of how many basins and dams there are with it.
 fn step_input_of(input: ElementInput, basins: usize, dams: usize) -> StepInput
     ensures { λ r. ⌜ r ≡ record { input = input; passed = record { basins = basins; dams = dams } } ⌝ }
 {
@@ -61,8 +62,8 @@ fn step_input_of(input: ElementInput, basins: usize, dams: usize) -> StepInput
 }
 
 // What element i, counted from 0, is worked out of: its kind chooses what the record, in which b rains stand, brings it: a rain, a release
-// or nothing. (The element is read last, and basins and dams are counted here: where a branch follows, the compiler puts an element's
-// numbers together byte by byte.)
+// or nothing. (The element is read last: where a branch follows, the compiler puts its numbers together byte by byte. Basins and dams are
+// counted in the arms, where it takes the fewest instructions.)
 fn step_input(
     table: &[u8],
     i: usize,

@@ -8,12 +8,12 @@ use Rattle.one_lead.specs.declared.ElementInput.{ElementInput}
 
 module _ (c : ElementInput) where
   -- what it has of its own at a lead
-  abbrev pub leadOwn : ℕ → Figures
-  leadOwn lead = ownAt (c .element) (c .own) lead
+  abbrev pub ownAtLead : ℕ → Figures
+  ownAtLead lead = ownAt (c .element) (c .own) lead
 
   -- its figures at a lead, from what drains into it and its figures before, and the numbers of 16
   unfoldable pub leadStep : ℕ → Figures → Figures → Figures
-  leadStep lead above old = elementStep (c .weight) (c .element) (leadOwn lead) (c .observation) above old
+  leadStep lead above old = elementStep (c .weight) (c .element) (ownAtLead lead) (c .observation) above old
 
   unfoldable pub leadStepNumbers : ℕ → Figures → Figures → List ℕ
-  leadStepNumbers lead above old = elementNumbers (c .weight) (c .element) (leadOwn lead) (c .observation) above old
+  leadStepNumbers lead above old = elementNumbers (c .weight) (c .element) (ownAtLead lead) (c .observation) above old
