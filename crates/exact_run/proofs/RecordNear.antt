@@ -8,7 +8,7 @@ use native.Mathlib.Omega.{arith}
 use lib.Dec.{eqb}
 use Rattle.refusal.specs.Answers.{Answer, accepted, refused}
 use Rattle.units.specs.declared.Discharge.{Discharge}
-use Rattle.rating.specs.Rating.{rated}
+use Rattle.rating.specs.Rating.{piecesOf, rated}
 use Rattle.weighting.specs.Estimates.{estimate}
 use Rattle.method.specs.declared.Figures.{Figures}
 use Rattle.exact.specs.Fraction.{Fraction}
@@ -26,7 +26,7 @@ use Rattle.record.specs.declared.Observation.{Observation}
 use Rattle.record.specs.declared.Observation.the-variants.{Nothing}
 use Rattle.record.specs.declared.Reading.{Reading}
 use Rattle.record.specs.declared.Reading.the-variants.{At, Gap}
-use Rattle.record.specs.Records.{piecesOf, readingAt, rateAnswer, observationOf, acceptedObservation, observationAt, atElement, inputRain, inputRelease, inputObservation, inputAt}
+use Rattle.record.specs.Records.{readingAt, rateAnswer, observationOf, acceptedObservation, observationAt, atElement, inputRain, inputRelease, inputObservation, inputAt}
 use Rattle.record.specs.Rules.{isAccepted, readingFits, recordRules}
 use Rattle.record.proofs.RecordLaws.{rules-kept}
 use Rattle.element_step.specs.ElementStep.{released, ownOf}

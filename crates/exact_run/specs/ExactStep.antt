@@ -8,11 +8,12 @@ use Rattle.exact.specs.Series.{F}
 use Rattle.exact.specs.Exact.{ExactFigures, exactRouted, exactCorrected, exactRated, exactStepInflow, exactNothing, exactSum}
 use Rattle.elements.specs.declared.Element.{Element}
 use Rattle.elements.specs.Kinds.{byKind}
+use Rattle.rating.specs.Rating.{piecesOf}
 use Rattle.gauges.specs.declared.Gauge.{Gauge}
 use Rattle.table.specs.Tables.{TableValues}
 use Rattle.record.specs.declared.Reading.{Reading}
 use Rattle.record.specs.declared.Reading.the-variants.{At, Gap}
-use Rattle.record.specs.Records.{piecesOf, readingAt, atElement, inputRain, inputRelease}
+use Rattle.record.specs.Records.{readingAt, atElement, inputRain, inputRelease}
 use Rattle.walk.specs.Walk.{newCell}
 use Rattle.network.specs.Step.{networkDown}
 

@@ -17,8 +17,8 @@ use Rattle.network.specs.Answer.{listed, byElementAndLead, forecastFigures, spa
 use Rattle.network.specs.Forecast.{rainCount, rainSum, leadInflow, forecastOwn, leadFigures, leadNumbers}
 use Rattle.network.specs.Lent.{layout}
 use Rattle.network.specs.Step.{weightOf, networkDown, networkCell, networkOutflow, aboveOf, newFigures, networkNumbers, stepOwn, observedIn, noObservation, stepFigures, stepPut, stepped, stepNumbers}
-use Rattle.rating.specs.Rating.{pieceFor, depth, dischargeAt, onPiece, rated}
-use Rattle.record.specs.Records.{rainAt, releaseAt, stageAt, readingOf, readingAt, piecesOf, rateAnswer, observationOf, acceptedObservation, observationAt, atElement, rainOf, releaseOf, inputRain, inputRelease, inputObservation, inputAt}
+use Rattle.rating.specs.Rating.{piecesOf, pieceFor, depth, dischargeAt, onPiece, rated}
+use Rattle.record.specs.Records.{rainAt, releaseAt, stageAt, readingOf, readingAt, rateAnswer, observationOf, acceptedObservation, observationAt, atElement, rainOf, releaseOf, inputRain, inputRelease, inputObservation, inputAt}
 use Rattle.table.specs.KindCounts.{countBefore}
 use Rattle.elements.specs.Kinds.{basinOf, damOf}
 use Rattle.record.specs.Rules.{rainFits, releaseFits, stageFits, isAccepted, readingFits, recordRules}

@@ -1,14 +1,16 @@
 -- Laws of the gauges: what rule 7 asks and what it lets callers rely on.
-use Prim.Native.Nat.{ℕ, zero, suc, _+_, _-_, _*_, _<_}
+use Prim.Native.Nat.{ℕ, zero, suc, _+_, _-_, _*_, _≤_, _<_}
 use mathlib.Core.Bool.{true}
 use mathlib.Core.List.{List}
 use mathlib.Core.Path.{_≡_, refl, ap}
-use borrow.Author.Tests.{ltb-true, leb-true, lt-ltb}
+use borrow.Author.Tests.{ltb-true, leb-true, eqb-true, lt-ltb}
 use native.Mathlib.Numerals.{add-one}
 use native.Mathlib.Omega.{arith}
 use lib.Dec.{ltb, leb, eqb}
 use Rattle.units.specs.Units.{C}
-use Rattle.rating.specs.Rating.{OffsetFits, PieceFits, CurveFits}
+use Rattle.rating.specs.Rating.{OffsetFits, PieceFits, CurveFits, piecesOf}
+use Rattle.rating.specs.Looks.{pieceNumber, PieceTaken}
+use Rattle.rating.proofs.LookLaws.{number-taken}
 use Rattle.rating.specs.declared.Offset.{Offset}
 use Rattle.rating.specs.declared.Offset.the-variants.{Plus, Minus}
 use Rattle.rating.specs.declared.Piece.{Piece}
@@ -72,10 +74,12 @@ unfolding curveFits pieceFits pieceOf
 curve-bounds curve h =
     let last = eqb (pieceOf curve (curve .count - 1) .top .0) 30001 in
     let k = all-three (inRange (curve .count) 1 5) (allBelow (pieceFits curve) 5) last h in
-    let most = range-bounds (curve .count) 1 5 (k .0) .1 in
+    let count = range-bounds (curve .count) 1 5 (k .0) in
     record {
-      count = most;
-      pieces = λ i used. piece-bounds _ _ (rw (lt-ltb _ _ used) at (all-at (pieceFits curve) 5 i (omega arith) (k .1 .0)));
+      least = count .0;
+      most = count .1;
+      pieces = λ i used. piece-bounds _ _ (rw (lt-ltb _ _ used) at (all-at (pieceFits curve) 5 i (omega (arith, count .1)) (k .1 .0)));
+      last = eqb-true _ _ (k .1 .1);
     }
 
 -- gauges rise strictly by element
@@ -106,4 +110,23 @@ gauge-bounds n element gauge g h =
       noiseLeast = range-bounds _ _ _ (k .1 .1 .1 .0) .0;
       noiseMost = range-bounds _ _ _ (k .1 .1 .1 .0) .1;
       curve = curve-bounds _ (k .1 .1 .1 .1);
+    }
+
+-- document 02, M-101: "For every accepted gauge and stage to 30,000 mm .. the number of the piece that 01 takes"
+pub accepted-piece-taken :
+    (n : ℕ) (element : ℕ → Element) (gauge : ℕ → Gauge) (g h : ℕ)
+    → gaugeFits n element gauge g ≡ true
+    → h ≤ 30000
+    → let pieces = piecesOf (gauge g .curve) in PieceTaken h pieces (pieceNumber h pieces)
+accepted-piece-taken n element gauge g h fits stage = number-taken h (gauge g .curve) stage (gauge-bounds n element gauge g fits .curve)
+
+-- a gauge of fewer elements
+pub gauge-of-more : {n m : ℕ} {gauge : Gauge} → n ≤ m → GaugeBounds n gauge → GaugeBounds m gauge
+gauge-of-more l b =
+    record {
+      elementLeast = b .elementLeast;
+      elementMost = omega arith;
+      noiseLeast = b .noiseLeast;
+      noiseMost = b .noiseMost;
+      curve = b .curve;
     }

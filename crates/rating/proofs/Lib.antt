@@ -1,1 +1,2 @@
 pub mod RatingLaws
+pub mod LookLaws

@@ -1,1 +1,2 @@
 pub mod Rating
+pub mod Looks

@@ -1,19 +1,21 @@
 -- Document 01, Reading: from a stage to the discharge z, or rule 14.
-use Prim.{Unit}
 use Prim.Native.Nat.{ℕ, _+_, _-_, _*_, _/_, _≤_, _<_}
 use mathlib.Core.Bool.{cond}
 use mathlib.Core.List.{List, [], _∷_}
+use mathlib.Core.Path.{_≡_}
 use lib.Dec.{ltb}
-use lib.ListN.{getD}
+use lib.ListN.{take, getD}
 use Rattle.refusal.specs.Answers.{Answer, accepted, refused, andThen}
 use Rattle.units.specs.Units.{C, grains}
 use Rattle.units.specs.declared.Discharge.{Discharge}
-use Rattle.units.specs.declared.DischargeAnswer.{DischargeAnswer}
-use Rattle.units.specs.declared.DischargeAnswer.the-variants.{Accepted, Refused}
 use Rattle.rating.specs.declared.Offset.{Offset}
 use Rattle.rating.specs.declared.Offset.the-variants.{Plus, Minus}
 use Rattle.rating.specs.declared.Piece.{Piece}
 use Rattle.rating.specs.declared.Curve.{Curve}
+
+-- the pieces in use of a curve
+unfoldable pub piecesOf : Curve → List Piece
+piecesOf curve = take (curve .count) (curve .pieces)
 
 -- "the first piece with stage below its top". In an accepted table the last top is 30,001, so there is always one.
 unfoldable pub pieceFor : ℕ → List Piece → Answer Piece
@@ -47,11 +49,9 @@ pub record PieceFits (p : Piece) : Type 0 where
 abbrev pub noPiece : Piece
 noPiece = record { top = record { 0 = 0 }; factor = 0; offset = Plus 0 }
 
+-- and of a curve: pieces 1 to 5, "the last used is 30,001"
 pub record CurveFits (curve : Curve) : Type 0 where
-  pub count : curve .count ≤ 5
+  pub least : 1 ≤ curve .count
+  pub most : curve .count ≤ 5
   pub pieces : (i : ℕ) → i < curve .count → PieceFits (getD (curve .pieces) i noPiece)
-
--- what callers may rely on: z does not pass the ceiling
-unfoldable pub AnsweredDischargeFits : DischargeAnswer → Type 0
-AnsweredDischargeFits (Accepted q) = q .0 ≤ C
-AnsweredDischargeFits (Refused r) = Unit
+  pub last : getD (curve .pieces) (curve .count - 1) noPiece .top .0 ≡ 30001

@@ -2,7 +2,8 @@
 ghost use mathlib.Core.Path.{_≡_};
 ghost use Prim.Native.Nat.{_≤_};
 ghost use Rattle.units.specs.Answers.{dischargeAnswer};
-ghost use Rattle.rating.specs.Rating.{AnsweredDischargeFits, dischargeAt, onPiece, PieceFits};
+ghost use Rattle.rating.specs.Rating.{dischargeAt, onPiece, PieceFits};
+ghost use Rattle.rating.specs.Looks.{lookOf};
 use refusal::Refusal;
 use units::Discharge;
 use units::DischargeAnswer;
@@ -27,10 +28,16 @@ pub struct Curve {
     pub pieces: [Piece; 5],
 }
 
+// What one look along a curve finds: the discharge of the stage, or the refusal of it, and with either how many pieces were read.
+pub enum RatingAnswer {
+    Accepted(Discharge, usize),
+    Refused(Refusal, usize),
+}
+
 // The discharge of the depth h + b on a piece with the factor a.
 fn discharge_at(factor: u64, depth: u64) -> DischargeAnswer
     requires { ⌜ (factor ≤ 1000000) × (depth ≤ 60000) ⌝ }
-    ensures { λ r. ⌜ (dischargeAnswer r ≡ dischargeAt factor depth) × AnsweredDischargeFits r ⌝ }
+    ensures { λ r. ⌜ dischargeAnswer r ≡ dischargeAt factor depth ⌝ }
 {
     let DischargeAnswer::Accepted(z) = Discharge::new(factor * (depth * depth) / 1_000) else {
         return DischargeAnswer::Refused(Refusal::ReadingRange);
@@ -41,7 +48,7 @@ fn discharge_at(factor: u64, depth: u64) -> DischargeAnswer
 // The discharge of a stage on a piece.
 pub fn rate_on_piece(stage: u64, piece: Piece) -> DischargeAnswer
     requires { ⌜ (stage ≤ 30000) × PieceFits piece ⌝ }
-    ensures { λ r. ⌜ (dischargeAnswer r ≡ onPiece stage piece) × AnsweredDischargeFits r ⌝ }
+    ensures { λ r. ⌜ dischargeAnswer r ≡ onPiece stage piece ⌝ }
 {
     let offset = piece.offset;
     match offset {
@@ -52,5 +59,15 @@ pub fn rate_on_piece(stage: u64, piece: Piece) -> DischargeAnswer
             }
             discharge_at(piece.factor, stage - b)
         }
+    }
+}
+
+// What a piece gives for a stage, with how many pieces were read.
+pub fn with_pieces(answer: DischargeAnswer, pieces: usize) -> RatingAnswer
+    ensures { λ r. ⌜ lookOf r ≡ record { answer = dischargeAnswer answer; pieces = pieces } ⌝ }
+{
+    match answer {
+        DischargeAnswer::Accepted(z) => RatingAnswer::Accepted(z, pieces),
+        DischargeAnswer::Refused(refusal) => RatingAnswer::Refused(refusal, pieces),
     }
 }

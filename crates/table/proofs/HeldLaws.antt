@@ -19,6 +19,8 @@ use Rattle.elements.specs.Elements.{elementAt}
 use Rattle.elements.specs.Kinds.{basinOf, damOf}
 use Rattle.elements.specs.Bounds.{ElementBounds}
 use Rattle.gauges.specs.Gauges.{gaugeAt}
+use Rattle.gauges.specs.Bounds.{GaugeKnown}
+use Rattle.gauges.proofs.GaugeLaws.{gauge-of-more}
 use Rattle.table.specs.declared.Counts.{Counts}
 use Rattle.table.specs.declared.TableAnswer.{TableAnswer}
 use Rattle.refusal.specs.declared.Verdict.the-variants.{Accepted, Refused}
@@ -81,6 +83,15 @@ module _ (bytes : List ℕ) {n m : ℕ} (t : CountedTable bytes n m) where
 
   pub gauge-in-use : (g : ℕ) → g < m → ((n ≤ mostElements) × (g ≤ mostGauges)) × (26 * n + 46 * g + 56 ≤ length bytes)
   gauge-in-use g l = rw (t .elements) (gauge-there bytes (t .table) (omega (arith, t .gauges)))
+
+  pub gauge-known : (g : ℕ) → g < m → GaugeKnown bytes n g
+  gauge-known g l =
+      let u = gauge-in-use g l in
+      let b = t .table .bounds in
+      record {
+        there = record { small = omega (arith, u .0 .0, u .0 .1); whole = omega (arith, u .1) };
+        bounds = gauge-of-more (b .elementsMost) (rw (gauge-held g l) (b .gauge g (omega (arith, t .gauges))));
+      }
 
 -- the elements and gauges of a table with its counts
 pub counted-table : (bytes : List ℕ) (counts : Counts) → Counted bytes counts → CountedTable bytes (counts .elements) (counts .gauges)

@@ -4,7 +4,7 @@ use borrow.Author.Tests.{lt-ltb, le-ltb}
 use native.Mathlib.Nat.{mul-le-mul}
 use native.Mathlib.Omega.{arith}
 use Rattle.units.proofs.AnswerLaws.{discharge-over, discharge-known}
-use Rattle.rating.specs.Rating.{AnsweredDischargeFits, dischargeAt}
+use Rattle.rating.specs.Rating.{dischargeAt}
 use Rattle.rating.proofs.RatingLaws.{product-le}
 use Rattle.rating.proofs.discharge_at.Statement.{statement}
 use Rattle.rating.proofs.discharge_at.Tie as tie
@@ -25,16 +25,14 @@ enum-told : tie.Need-enum-told
 enum-told c = search needs
 
 returns : tie.Need-returns
-unfolding dischargeAt AnsweredDischargeFits
-returns c =
-    let o = discharge-over _ (c .enum-told .given .1) (c .before .before .new .ensures) in
-    (rw (lt-ltb _ _ o), tt)
+unfolding dischargeAt
+returns c = let o = discharge-over _ (c .enum-told .given .1) (c .before .before .new .ensures) in rw (lt-ltb _ _ o)
 
 returns-2 : tie.Need-returns-2
-unfolding dischargeAt AnsweredDischargeFits
+unfolding dischargeAt
 returns-2 c =
     let o = discharge-known _ (c .before .z .given .1) (c .before .before .before .new .ensures) in
-    rw (o .1) (rw (le-ltb _ _ (o .0)), o .0)
+    rw (o .1, le-ltb _ _ (o .0))
 
 pub discharge-at-spec : {M : Type 1} → statement M
 discharge-at-spec =

@@ -1,10 +1,10 @@
 -- `rate_on_piece` meets its contract.
 use Prim.Native.Nat.{_≤_}
-use mathlib.Core.Path.{_≡_, subst, sym, _∙_}
+use mathlib.Core.Path.{subst}
 use borrow.Author.Needs.{needs}
 use borrow.Author.Tests.{lt-ltb, le-ltb}
 use native.Mathlib.Omega.{arith}
-use Rattle.rating.specs.Rating.{AnsweredDischargeFits, onPiece, depth, OffsetFits}
+use Rattle.rating.specs.Rating.{onPiece, depth, OffsetFits}
 use Rattle.rating.proofs.rate_on_piece.Statement.{statement}
 use Rattle.rating.proofs.rate_on_piece.Tie as tie
 
@@ -27,22 +27,20 @@ enum-known-offset-2 : tie.Need-enum-known-offset-2
 enum-known-offset-2 c = search needs
 
 returns : tie.Need-returns
-unfolding onPiece depth AnsweredDischargeFits
-returns c = (rw (c .before .before .offset2 .given .1, lt-ltb _ _ (c .if1 .taken)), tt)
+unfolding onPiece depth
+returns c = rw (c .before .before .offset2 .given .1, lt-ltb _ _ (c .if1 .taken))
 
 discharge-at-requires-2 : tie.Need-discharge-at-requires-2
 discharge-at-requires-2 c κs = search needs
 
 returns-2 : tie.Need-returns-2
 unfolding onPiece depth
-returns-2 c = (rw (c .before .before .offset .given .1) (c .discharge-at .ensures .0), c .discharge-at .ensures .1)
+returns-2 c = rw (c .before .before .offset .given .1) (c .discharge-at .ensures)
 
 returns-3 : tie.Need-returns-3
 unfolding onPiece depth
-returns-3 c = (
-  rw (c .before .before .before .offset2 .given .1, le-ltb _ _ (c .before .if1 .left)) (c .discharge-at2 .ensures .0),
-  c .discharge-at2 .ensures .1,
-)
+returns-3 c =
+    rw (c .before .before .before .offset2 .given .1, le-ltb _ _ (c .before .if1 .left)) (c .discharge-at2 .ensures)
 
 pub rate-on-piece-spec : {M : Type 1} → statement M
 rate-on-piece-spec =
