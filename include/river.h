@@ -91,6 +91,14 @@ typedef struct {
     size_t count;
 } river_written;
 
+/* What the curve of a gauge gives for a stage: the discharge, 0 where it is refused by 14, and how many pieces were read, from the first on:
+ * the number (from 1) of the piece that the discharge or the 14 is of. It is 0 where no curve is looked along: at any other refusal, for a
+ * gap (65535) and for a gauge that the table does not have; the discharge then is 0 too. */
+typedef struct {
+    uint64_t refusal, discharge;
+    size_t pieces;
+} river_rating;
+
 /* The version of the library that is linked: RIVER_VERSION of its own header. */
 uint64_t river_version(void);
 
@@ -107,6 +115,10 @@ uint64_t river_step(const uint8_t *table, size_t table_bytes, const uint8_t *rec
  * variance and variance margin: those of element e (from 1) at lead l (from 0) begin at numbers[4 * ((e - 1) * (leads + 1) + l)]. What
  * lies after the last of them stays. */
 river_written river_forecast(const uint8_t *table, size_t table_bytes, const river_state *state, uint64_t *numbers, size_t numbers_lent);
+
+/* Looks along the curve of a gauge (from 1, in the table's order) with a stage in millimetres, as a step does with a reading: rules 1 to 7,
+ * 13 and 14. */
+river_rating river_rate(const uint8_t *table, size_t table_bytes, size_t gauge, uint64_t stage);
 
 /* The figures of an element (from 1) at a lead (from 0) in the numbers of a forecast. */
 static inline river_figures river_figures_at(const uint64_t *numbers, size_t leads, size_t element, size_t lead)

@@ -3,6 +3,8 @@ use Prim.Native.Nat.{ℕ, _+_, _*_}
 use mathlib.Core.List.{List}
 use mathlib.Core.Path.{_≡_}
 use Rattle.refusal.specs.Answers.{Answer, accepted, refused}
+use Rattle.units.specs.declared.Discharge.{Discharge}
+use Rattle.rating.specs.Looks.{Look}
 use Rattle.method.specs.declared.Figures.{Figures}
 use Rattle.table.specs.Tables.{TableValues}
 use Rattle.table.specs.KindCounts.{basinCount, damCount}
@@ -11,6 +13,7 @@ use Rattle.state.specs.Answers.{stateAfter}
 use Rattle.network.specs.Lent.{countWritten, lentAfter}
 use Rattle.river.specs.declared.TablePlan.{TablePlan}
 use Rattle.river.specs.declared.Written.{Written}
+use Rattle.river.specs.declared.Rating.{Rating}
 
 -- the version of the interface
 abbrev pub version : ℕ
@@ -69,3 +72,12 @@ writtenReply (refused n) = record { refusal = n; count = 0 }
 pub record ForecastReplied (r : Written) (after : List ℕ) (answer : Answer (List Figures)) (before : List ℕ) : Type 0 where
   pub reply : r ≡ writtenReply (countWritten answer)
   pub numbers : after ≡ lentAfter answer before
+
+-- M-101: "z or 14 .. and with either the number of pieces"; a discharge of 0 where the stage is refused
+unfoldable pub dischargeIn : Answer Discharge → ℕ
+dischargeIn (accepted z) = z .0
+dischargeIn (refused n) = 0
+
+unfoldable pub ratingReply : Look → Rating
+ratingReply look =
+    record { refusal = refusalOf (look .answer); discharge = dischargeIn (look .answer); pieces = look .pieces }

@@ -5,11 +5,13 @@ ghost use Rattle.refusal.specs.Answers.{accepted};
 ghost use Rattle.refusal.specs.Verdicts.{verdictAnswer};
 ghost use Rattle.table.specs.InUse.{tableIn};
 ghost use Rattle.table.specs.Rules.{tableRules};
+ghost use Rattle.rating.specs.Looks.{lookOf};
 ghost use Rattle.network.specs.Lent.{countAnswer};
-ghost use Rattle.entries.specs.Entries.{startAnswer, stepAnswer, forecastAnswer};
+ghost use Rattle.entries.specs.Entries.{startAnswer, stepAnswer, forecastAnswer, ratingAnswer};
 ghost use Rattle.river.specs.Held.{CountsSmall, PlanAsked};
-ghost use Rattle.river.specs.Replies.{version, refusalOf, noPlan, planReply, writtenReply, StateReplied, ForecastReplied};
+ghost use Rattle.river.specs.Replies.{version, refusalOf, noPlan, planReply, writtenReply, ratingReply, StateReplied, ForecastReplied};
 use network::ForecastAnswer;
+use rating::RatingAnswer;
 use refusal::Verdict;
 use sizes::STATE_NUMBERS;
 use table::Counts;
@@ -36,6 +38,14 @@ pub struct Written {
     pub count: usize,
 }
 
+// 0, or the number for no, the discharge of a stage, and how many pieces of the curve were read for it.
+#[repr(C)]
+pub struct Rating {
+    pub refusal: u64,
+    pub discharge: u64,
+    pub pieces: usize,
+}
+
 fn refusal_of(verdict: Verdict) -> u64
     ensures { λ r. ⌜ r ≡ refusalOf (verdictAnswer verdict) ⌝ }
 {
@@ -55,6 +65,26 @@ fn written_reply(answer: ForecastAnswer) -> Written
             Written {
                 refusal: number,
                 count: 0,
+            }
+        }
+    }
+}
+
+fn rating_reply(answer: RatingAnswer) -> Rating
+    ensures { λ r. ⌜ r ≡ ratingReply (lookOf answer) ⌝ }
+{
+    match answer {
+        RatingAnswer::Accepted(z, pieces) => Rating {
+            refusal: 0,
+            discharge: z.0,
+            pieces,
+        },
+        RatingAnswer::Refused(refusal, pieces) => {
+            let number = refusal.code();
+            Rating {
+                refusal: number,
+                discharge: 0,
+                pieces,
             }
         }
     }
@@ -149,4 +179,13 @@ pub extern "C" fn river_forecast(
 {
     let answer = engine::forecast(table, state, &mut *out);
     written_reply(answer)
+}
+
+// A stage on the curve of a gauge, counted from 1, on the bytes of a table.
+#[no_mangle]
+pub extern "C" fn river_rate(table: &[u8], gauge: usize, stage: u64) -> Rating
+    ensures { λ r. ⌜ r ≡ ratingReply (ratingAnswer (now (table .entry)) gauge stage) ⌝ }
+{
+    let answer = engine::rate(table, gauge, stage);
+    rating_reply(answer)
 }

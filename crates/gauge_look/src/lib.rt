@@ -1,0 +1,45 @@
+// A stage on the curve of one gauge, by itself: the call `rate` on an accepted table.
+ghost use mathlib.Core.Path.{_≡_};
+ghost use Prim.Native.Nat.{_≤_};
+ghost use Rattle.rating.specs.Looks.{lookOf};
+ghost use Rattle.table.specs.Bounds.{CountedTable};
+ghost use Rattle.table.specs.InUse.{tableIn};
+ghost use Rattle.gauge_look.specs.GaugeLooks.{gaugeLook, fieldLook};
+use rating::RatingAnswer;
+use readings::reading_of;
+use record::Reading;
+use refusal::Refusal;
+use stage_curve::look_along;
+use units::Discharge;
+
+// The look along the curve of gauge k, counted from 1, of a table with n elements and m gauges; no piece where it has no such gauge.
+fn look_at(table: &[u8], n: usize, m: usize, k: usize, stage: u64) -> RatingAnswer
+    requires { ⌜ CountedTable (now table) n m × (stage ≤ 30000) ⌝ }
+    ensures { λ r. ⌜ lookOf r ≡ gaugeLook (tableIn (now (table .entry))) k stage ⌝ }
+{
+    if k == 0 {
+        return RatingAnswer::Accepted(Discharge(0), 0);
+    }
+    if m < k {
+        return RatingAnswer::Accepted(Discharge(0), 0);
+    }
+    look_along(table, 26 * n + 46 * (k - 1) + 10, stage)
+}
+
+// The same of a stage field: no piece for a gap or a stage that 13 refuses.
+pub fn look_at_field(table: &[u8], n: usize, m: usize, k: usize, field: u64) -> RatingAnswer
+    requires { ⌜ CountedTable (now table) n m ⌝ }
+    ensures { λ r. ⌜ lookOf r ≡ fieldLook (tableIn (now (table .entry))) k field ⌝ }
+{
+    let reading = reading_of(field);
+    match reading {
+        Reading::Gap => RatingAnswer::Accepted(Discharge(0), 0),
+        Reading::At(stage) => {
+            let h = stage.0;
+            if 30_000 < h {
+                return RatingAnswer::Refused(Refusal::StageRange, 0);
+            }
+            look_at(table, n, m, k, h)
+        }
+    }
+}
