@@ -17,7 +17,7 @@ from calculator.encode import record_bytes, table_bytes
 from calculator.fractions_run import ExactNumbers, FractionsRun, exact_weight
 from calculator.program import cut_records, cut_table, run
 from calculator.whole_numbers import (BASIN, CEILING, DAM, GAP, RULES, SCALE, Element, Figures, Piece, Rules, State, decode_table,
-                                      piece_for, record_fields)
+                                      record_fields)
 
 ROOT = Path(__file__).resolve().parent.parent
 SAMPLE_FOLDER = ROOT / "examples/yubetsu-2001"
@@ -312,7 +312,7 @@ def one_step():
     rules = Noted()
     state, exact = THREE_ELEMENTS.after_steps(rules, 1)
     after, moves = state.figures, rules.moves
-    z = RULES.curve(piece_for(decode_table(TABLE).gauges[0], 1_400), 1_400)
+    z = RULES.look(decode_table(TABLE).gauges[0], 1_400).discharge
     final = []
     for place, (x, v) in enumerate(exact.figures):
         rains = ", ".join(map(str, state.rains[place])) if ELEMENTS[place].kind == BASIN else ""
@@ -602,7 +602,7 @@ class Kaisei:
 
     def observed(self, hour):
         stage = int.from_bytes(self.records[hour - 1][-2:], "big")
-        return "gap" if stage == GAP else thousandths(RULES.curve(piece_for(self.table.gauges[-1], stage), stage))
+        return "gap" if stage == GAP else thousandths(RULES.look(self.table.gauges[-1], stage).discharge)
 
     def rows(self, hour):
         """The hour's forecasts, and what was observed one, two and three hours later."""

@@ -1,7 +1,7 @@
 """Document 01, "Tried figures": all of them asked of whole_numbers.py. Those that a run can show are inputs of the program too."""
 from .encode import record_bytes, table_bytes
 from .program import run
-from .whole_numbers import Figures, Piece, Refused, RULES, SCALE, State, decode_table, piece_for, series_weight
+from .whole_numbers import Figures, Piece, Refused, RULES, SCALE, State, decode_table, series_weight
 
 EXAMPLE_INPUT = bytes.fromhex("00000020 01 003C 01 01 00 01 00 003C 00000E10 03E8 00000000 00000000 00000000 000003E8 0003 01 0064")
 EXAMPLE_OUTPUT = b"1 1 0 63212055 3 0 6\n1 1 1 86466471 4 399 6\n"
@@ -29,7 +29,7 @@ def check():
     piece = Piece(30_001, 20_000, -500)
     assert RULES.curve(piece, 1_500) == 20_000_000 and RULES.curve(piece, 500) == 0 and refusal(RULES.curve, piece, 499) == 14
     curve = decode_table(one_reach([(1_000, 1, 0), (30_001, 2, 0)])).gauges[0]
-    assert piece_for(curve, 999).a == 1 and piece_for(curve, 1_000).a == 2
+    assert RULES.look(curve, 999) == (0, 998, 1) and RULES.look(curve, 1_000) == (0, 2_000, 2)
     assert refusal(RULES.start, one_reach([(30_001, 1, 0)], down=1), State()) == 6
     deep = one_reach([(30_001, 1, 0)])
     started = RULES.start(deep, State())
