@@ -63,3 +63,12 @@ river_written NAMED(forecast)(const uint8_t *table, size_t table_bytes, const ri
     memcpy(numbers, space + t.leads + 1, sizeof *numbers * count);
     return (river_written){0, count};
 }
+
+river_rating NAMED(rate)(const uint8_t *table, size_t table_bytes, size_t gauge, uint64_t stage)
+{
+    Table t;
+    u32 refusal = read_table(&t, table, table_bytes);
+    if (!refusal && stage > HIGHEST_STAGE && stage != GAP) refusal = 13;
+    if (refusal || stage == GAP || gauge < 1 || gauge > t.gauge_count) return (river_rating){refusal, 0, 0};
+    return look(t.gauges + GAUGE_BYTES * (gauge - 1), (u32)stage);
+}
