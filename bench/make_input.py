@@ -1,10 +1,11 @@
 #!/usr/bin/env python3
 """Writes a bench input to standard output: a table and its records, nothing of which is refused.
 
-    python3 bench/make_input.py [--elements 64] [--gauges 16] [--leads 12] [--steps 1000] [--seed 1]
+    python3 bench/make_input.py [--elements 64] [--gauges 16] [--leads 12] [--steps 1000] [--seed 1] [--pieces 3] [--gaps 0.1]
 
 The river: every second element a basin, which drains into a reach; the reaches form a tree that joins two by two and ends in one outlet.
-A single element is a basin. Gauges stand on reaches spread over the tree. Rain comes in storms, stages follow smoothly, one stage in ten is a gap.
+A single element is a basin. Gauges stand on reaches spread over the tree; their curves have three pieces or five, each of which is read on
+the way. Rain comes in storms, stages follow smoothly, one stage in ten (or another share) is a gap.
 """
 import argparse
 import sys
@@ -15,9 +16,19 @@ sys.path.insert(0, str(Path(__file__).resolve().parent.parent / "tests"))
 from calculator.encode import record_bytes, table_bytes  # noqa: E402
 
 GAP = 65_535
+# By pieces in use: the top, the least a and the greatest, and b of each.
+CURVES = {3: ((1_500, 20_000, 40_000, -300), (3_000, 15_000, 30_000, -100), (30_001, 10_000, 20_000, 200)),
+          5: ((600, 20_000, 40_000, -300), (1_400, 20_000, 35_000, -300), (2_200, 15_000, 30_000, -200), (3_000, 15_000, 30_000, -100),
+              (30_001, 10_000, 20_000, 200))}
 
 
-def river(random, count, gauge_count, leads):
+def curve(random, pieces, place):
+    """The pieces of a gauge; the tops of five are higher at one gauge than at another, so that each piece has readings at most times."""
+    raised = 600 * (place % 5) if pieces == 5 else 0
+    return [(min(30_001, top + raised), random.randint(least, most), b) for top, least, most, b in CURVES[pieces]]
+
+
+def river(random, count, gauge_count, leads, pieces):
     reaches = [number for number in range(2, count + 1) if number % 2 == 0 or number == count]
     below = {}  # reach k drains into the reach about halfway to the outlet: pairs join, then pairs of pairs
     for place, number in enumerate(reaches):
@@ -34,13 +45,12 @@ def river(random, count, gauge_count, leads):
                                  first_variance=random.randint(0, 100), W=random.randint(100, 20_000), G=random.randint(1_000, 500_000)))
     gauge_count = min(gauge_count, len(reaches))
     gauged = [reaches[len(reaches) * (k + 1) // gauge_count - 1] for k in range(gauge_count)]
-    gauges = [dict(element=number, R=random.randint(20_000, 200_000),
-                   pieces=[(1_500, random.randint(20_000, 40_000), -300), (3_000, random.randint(15_000, 30_000), -100),
-                           (30_001, random.randint(10_000, 20_000), 200)]) for number in gauged]
+    gauges = [dict(element=number, R=random.randint(20_000, 200_000), pieces=curve(random, pieces, place))
+              for place, number in enumerate(gauged)]
     return dict(T=60, L=leads, elements=elements, gauges=gauges)
 
 
-def records(random, table, steps):
+def records(random, table, steps, gaps):
     basins = sum(element["kind"] == 1 for element in table["elements"])
     stages = [random.randint(600, 1_200) for _ in table["gauges"]]
     storm = 0
@@ -49,18 +59,20 @@ def records(random, table, steps):
         rains = [random.randint(0, 120) if storm else random.choice((0, 0, 0, 2)) for _ in range(basins)]
         for k, stage in enumerate(stages):
             stages[k] = min(4_500, max(400, stage + (random.randint(-40, 160) if storm else random.randint(-60, 25))))
-        yield rains, [GAP if random.random() < 0.1 else stage for stage in stages]
+        yield rains, [GAP if random.random() < gaps else stage for stage in stages]
 
 
 def main():
     parser = argparse.ArgumentParser(description=__doc__, formatter_class=argparse.RawDescriptionHelpFormatter)
     for name, default in (("elements", 64), ("gauges", 16), ("leads", 12), ("steps", 1_000), ("seed", 1)):
         parser.add_argument(f"--{name}", type=int, default=default)
+    parser.add_argument("--pieces", type=int, default=3, choices=sorted(CURVES))
+    parser.add_argument("--gaps", type=float, default=0.1)
     options = parser.parse_args()
     random = Random(options.seed)
-    table = river(random, options.elements, options.gauges, options.leads)
+    table = river(random, options.elements, options.gauges, options.leads, options.pieces)
     sys.stdout.buffer.write(table_bytes(table))
-    for rains, stages in records(random, table, options.steps):
+    for rains, stages in records(random, table, options.steps, options.gaps):
         sys.stdout.buffer.write(record_bytes(rains, stages))
 
 
