@@ -434,13 +434,17 @@ def last_places():
     yield "17, last release C and C + 1", dams(CEILING), dams(CEILING + 1)
 
 
+# (name, a, h + b). In their ranges no other a and h + b give C with a rest, and none C + 1.
+CURVE_EDGES = (("z is C", 1_000_000, 2_000), ("z rounds down to C", 759_442, 2_295), ("z is C + 1", 268_742, 3_858),
+               ("z is C - 4", 768_793, 2_281), ("z is far above C", 1_000_000, 2_001))
+
+
 def ceiling_of_curve():
     """Rule 14: z exactly C, C and a rest that is rounded away, and C + 1."""
     def at(a, depth):
         table = dict(T=60, L=1, elements=[reach(first_discharge=CEILING, W=100)], gauges=[gauge(1, R=100, pieces=[(30_001, a, 0)])])
         return whole_input(table, [((), (depth,)), ((), (GAP,))])
-    for name, a, depth in (("z is C", 1_000_000, 2_000), ("z rounds down to C", 759_442, 2_295), ("z is C + 1", 268_742, 3_858),
-                           ("z is C - 4", 768_793, 2_281), ("z is far above C", 1_000_000, 2_001)):
+    for name, a, depth in CURVE_EDGES:
         yield name, at(a, depth)
 
 
@@ -554,6 +558,72 @@ def dam_rivers():
     for count, name in ((40, "C"), (41, "above C")):
         dams = [dam(down=count + 1, W=100_000_000) for _ in range(count)]
         yield f"lets variance {name} out", *river([*dams, reach()], ((), (), (1,) * count), L=1)
+
+
+# ---- Curves of five pieces -------------------------------------------------------------------------------------------------------------
+
+
+def stages_of(tops):
+    """By piece: its lowest stage, and its top, the first stage above it."""
+    return list(zip((0, *tops), tops))
+
+
+def river_of_curves(curves):
+    """A reach for each curve, one after the other down the river, with a gauge on each."""
+    elements = [reach(down=number + 1 if number < len(curves) else 0, lag=60 + number, first_discharge=1_000_000 * number,
+                      first_variance=1_000_000, W=50_000) for number in range(1, len(curves) + 1)]
+    return dict(T=60, L=1, elements=elements,
+                gauges=[gauge(number, R=1_000_000, pieces=pieces) for number, pieces in enumerate(curves, 1)])
+
+
+FIVE_TOPS = ((1, 2, 3, 4, 30_001), (500, 1_000, 2_000, 20_000, 30_001), (29_997, 29_998, 29_999, 30_000, 30_001),
+             (1, 1_000, 29_000, 29_999, 30_001))
+WIDE_TOPS = ((2, 4, 6, 8, 30_001), (500, 1_000, 2_000, 20_000, 30_001), (29_993, 29_995, 29_997, 29_999, 30_001))  # two stages or more
+ABOVE_ALL = 1_000_000, 30_000  # a and b that give 14 at every stage
+
+
+def taking_curve(k, tops):
+    """Pieces that take every stage of theirs, by b of either sign."""
+    return [(top, 100 + 60 * place + 7 * k, 10 * k + place if (k + place) % 2 else -below)
+            for place, (below, top) in enumerate(stages_of(tops))]
+
+
+def curve_rivers():
+    """(name, table, records); all but the first with 16 gauges of five pieces. After refused records come accepted ones."""
+    pieces, sixteen = [(1_000, 20_000, -500), (30_001, 20_000, 0)], range(16)
+    yield "14 on the first of two pieces", river_of_curves([pieces]), [((), (stage,)) for stage in (499, 500, 0, 1_000, 499, 999)]
+
+    # Gauge after gauge another piece; every record another one of it, at the top less 1, the top and the top plus 1.
+    tops = [FIVE_TOPS[k % 4] for k in sixteen]
+    records = [((), [min(30_000, tops[k][(k + turn) % 5] + more) for k in sixteen]) for more in (-1, 0, 1) for turn in range(5)]
+    yield "16 gauges on every piece", river_of_curves([taking_curve(k, tops[k]) for k in sixteen]), records
+
+    # One piece of each curve gives 14 at its lowest stage (h + b is -1) or at its highest (z is C + 1); the others take every stage.
+    curves, bad, good = [], [], []
+    for k in sixteen:
+        tops, place = WIDE_TOPS[k % 3], k % 5
+        below, top = stages_of(tops)[place]
+        pieces = [(each, 100 + 60 * which + k, 20 * k + which) for which, each in enumerate(tops)]
+        pieces[place] = (top, 300, -below - 1) if k % 2 else (top, 268_742, 3_858 - (top - 1))
+        curves.append(pieces)
+        bad.append(below if k % 2 else top - 1)
+        good.append(below + 1 if k % 2 else top - 2)
+    records = [((), row) for k in sixteen for row in (good[:k] + [bad[k]] + good[k + 1:], good)]
+    yield "14 on each piece in turn", river_of_curves(curves), records
+
+    # One piece of each curve takes its stages, from the lowest to the highest; before and after it come pieces that give 14.
+    curves, ends = [], []
+    for k in sixteen:
+        tops, place = WIDE_TOPS[k % 3], k % 5
+        pieces = [(top, *ABOVE_ALL) for top in tops]
+        pieces[place] = (tops[place], 500 + k, -stages_of(tops)[place][0])
+        curves.append(pieces)
+        ends.append(stages_of(tops)[place])
+    records = []
+    for k, (below, top) in enumerate(ends):
+        good = [low if (k + place) % 2 else high - 1 for place, (low, high) in enumerate(ends)]
+        records += [((), good[:k] + [stage] + good[k + 1:]) for stage in (below - 1, top) if 0 <= stage <= 30_000] + [((), good)]
+    yield "14 on all pieces but one", river_of_curves(curves), records
 
 
 # ---- Cut, spoiled and random inputs ----------------------------------------------------------------------------------------------------
@@ -771,6 +841,8 @@ def inputs(long=False):
     for name, *rivers in last_places():
         for table, record in rivers:
             add(f"last place: {name}", fixed(whole_input(table, [record, record])))
+    for name, table, records in curve_rivers():
+        add(f"curve: {name}", fixed(whole_input(table, records)))
     return found
 
 
