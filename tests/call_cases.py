@@ -1,15 +1,17 @@
 """The calls that the C interface is tried on, in cases; each case is built from a seed and its number, so that it can be made again by itself.
 
 cases() lists them; nothing is built before it is asked for. What standard input can reach is tried in inputs.py; here is the rest:
-states that no run brings about, lent space, places that no call may touch, and each of rule 16's numbers on the ceiling.
+states that no run brings about, lent space, places that no call may touch, each of rule 16's numbers on the ceiling, and looks along a curve.
 """
 from dataclasses import dataclass, replace
 from typing import Callable
 
 from calculator.encode import big_endian, record_bytes, table_bytes
-from calculator.whole_numbers import BASIN, CEILING, GAP, MOST_ELEMENTS, SCALE, Figures, Refused, Rules, State, decode_table, start, step
-from inputs import (DAM_RECORDS, SHAPES, SMALL_RECORDS, WAYS, basin, count_of, dam, dam_edits, dam_river, dam_table, gauge, last_places,
-                    rule_edits, reach, small_river, small_table, some_records, some_table, spoiled, spoiled_values)
+from calculator.whole_numbers import (BASIN, CEILING, GAP, MOST_ELEMENTS, RULES, SCALE, Figures, Refused, Rules, State, decode_table, start,
+                                      step)
+from inputs import (ABOVE_ALL, CURVE_EDGES, DAM_RECORDS, FIVE_TOPS, SHAPES, SMALL_RECORDS, WAYS, basin, count_of, curve_rivers, dam,
+                    dam_edits, dam_river, dam_table, gauge, last_places, rule_edits, reach, river_of_curves, small_river, small_table,
+                    some_curve, some_records, some_table, spoiled, spoiled_values, stages_of, taking_curve)
 
 LARGEST = 2 ** 64 - 1
 ROOM_FOR_ALL = 4 * 64 * 13
@@ -18,12 +20,14 @@ ROOM_FOR_ALL = 4 * 64 * 13
 @dataclass(frozen=True)
 class Call:
     name: str
-    entry: str  # start, step, forecast, check or version
+    entry: str  # start, step, forecast, check, version or rate
     table: bytes
     state: State
     record: bytes = b""
     lent: tuple = ()  # the lent numbers before the call
     side: int = 0  # 0: bytes, state and numbers stand right before a page without access, 1: right after one
+    gauge: int = 0  # of a rate, as its stage
+    stage: int = 0
 
 
 @dataclass
@@ -552,6 +556,190 @@ def dam_records_cut(random):
         yield Call(f"record of {len(record)} bytes", "step", DAMS, state, told, side=random.randrange(2))
 
 
+# ---- Looks along a curve -----------------------------------------------------------------------------------------------------------------
+
+
+def rate_calls(name, random, table, asked):
+    """A rate of each of these pairs of gauge and stage."""
+    state = noise_state(random)
+    for number, stage in asked:
+        yield Call(f"{name}, gauge {number}, stage {stage}", "rate", table, state, side=random.randrange(2), gauge=number, stage=stage)
+
+
+def looks(name, random, asked):
+    """A rate of each (pieces of a curve, stage, answer), the answer being worked out beside the calculator; 16 curves to a table."""
+    asked = list(asked)
+    for at in range(0, len(asked), 16):
+        group = asked[at:at + 16]
+        table = table_bytes(river_of_curves([pieces for pieces, _, _ in group]))
+        for number, (_, stage, answer) in enumerate(group, 1):
+            assert RULES.rate(table, number, stage) == answer, f"{name}: {group[number - 1]}"
+        yield from rate_calls(name, random, table, [(number, stage) for number, (_, stage, _) in enumerate(group, 1)])
+
+
+# By pieces in use: tops one apart from the lowest on, spread, and one apart up to the highest.
+TOPS = {used: [(*range(1, used), 30_001), (*(1_000 * k * k for k in range(1, used)), 30_001), (*range(30_002 - used, 30_001), 30_001)]
+        for used in range(1, 6)}
+
+
+def looks_at_tops(used):
+    """Stage 0, and each top less 1, the top and the top plus 1; the last top and what is above it give 13."""
+    def asked():
+        for k, tops in enumerate(TOPS[used] * 2):
+            pieces = taking_curve(k, tops)
+            for stage in sorted({0, *(top + more for top in tops for more in (-1, 0, 1))} - {30_001, 30_002}):
+                place = sum(top <= stage for top in tops)  # the pieces that lie below the stage
+                _, a, b = pieces[place]
+                yield pieces, stage, (0, a * (stage + b) ** 2 // 1_000, place + 1)
+
+    def build(random):
+        yield from looks("top", random, asked())
+        table = table_bytes(river_of_curves([taking_curve(k, tops) for k, tops in enumerate(TOPS[used])]))
+        yield from rate_calls("last top", random, table, [(number, stage) for number in (1, 2, 3) for stage in (30_001, 30_002)])
+    return build
+
+
+def others_around(tops, place, a, b):
+    """The piece at a place between others that take its stages, and between others that give 14 at every stage."""
+    for other in ((100, 30_000), ABOVE_ALL):
+        yield [(top, *((a, b) if which == place else other)) for which, top in enumerate(tops)]
+
+
+def each_piece(used):
+    """(tops, place of a piece, its lowest stage, its highest) of each piece of curves of so many."""
+    return [(tops, place, below, top - 1) for tops in TOPS[used] for place, (below, top) in enumerate(stages_of(tops))]
+
+
+def looks_at_feet(used):
+    """h + b of -1, 0 and 1 at the lowest and the highest stage of each piece."""
+    def asked():
+        for tops, place, lowest, highest in each_piece(used):
+            for stage in sorted({lowest, highest}):
+                for depth, number, z in ((-1, 14, 0), (0, 0, 0), (1, 0, 40)):
+                    if depth - stage >= -30_000:
+                        for pieces in others_around(tops, place, 40_000, depth - stage):
+                            yield pieces, stage, (number, z, place + 1)
+
+    return lambda random: looks("foot", random, asked())
+
+
+def looks_at_ceiling(used):
+    """z of C, C with a rest, C + 1 and others about it, and the greatest h + b, on each piece."""
+    edges = [(a, depth) for _, a, depth in CURVE_EDGES]
+    edges += [(1_600, 50_000), (1_111, 60_000), (1_112, 60_000), (1_000_000, 60_000), (2_560, 40_960)]  # of the last z is 2^32
+
+    def asked():
+        for tops, place, lowest, highest in each_piece(used):
+            for a, depth in edges:
+                stage, z = lowest if depth <= 30_000 else highest, a * depth ** 2 // 1_000
+                if depth - stage <= 30_000:
+                    for pieces in others_around(tops, place, a, depth - stage):
+                        yield pieces, stage, (0, z, place + 1) if z <= CEILING else (14, 0, place + 1)
+
+    return lambda random: looks("ceiling", random, asked())
+
+
+def rates_of_largest(random):
+    """64 elements and 16 gauges of five pieces: each gauge on each of its pieces, and the gauge after the last."""
+    elements = [basin(down=64, area=1) for _ in range(63)] + [reach()]
+    gauges = [gauge(49 + k, pieces=taking_curve(k, FIVE_TOPS[k % 4])) for k in range(16)]
+    asked = [(k + 1, stage) for k in range(16) for top in FIVE_TOPS[k % 4] for stage in (top - 1, min(30_000, top))]
+    return rate_calls("largest", random, table_bytes(dict(T=60, L=12, elements=elements, gauges=gauges)), [*asked, (17, 100)])
+
+
+GAUGES = (0, 1, 2, 3, 4, 16, 17, 2 ** 8 + 1, 2 ** 16 + 1, 2 ** 32 + 1, 2 ** 63, 2 ** 63 + 1, 2 ** 63 + 2, LARGEST)
+
+
+def rates_by_gauge(random):
+    """Gauges of tables with none, one and three: those that are there and others, with a stage, a gap and a stage of 13."""
+    for count in (0, 1, 3):
+        table = river_of_curves([taking_curve(k, FIVE_TOPS[k]) for k in range(3)])
+        data = table_bytes(table | dict(gauges=table["gauges"][:count]))
+        for stage in (1_500, GAP, 30_001):
+            yield from rate_calls(f"M {count}", random, data, [(number, stage) for number in GAUGES])
+
+
+STAGES = (0, 1, 29_999, 30_000, 30_001, 30_002, 65_534, 65_535, 65_536, 2 ** 16 + 100, 2 ** 17 - 1, 2 ** 32 + 100, 2 ** 32 + 65_535, 2 ** 63,
+          2 ** 63 + 100, LARGEST)
+
+
+def rates_by_stage(random):
+    """All that a stage can be, for gauges that are there and for others."""
+    table = table_bytes(river_of_curves([taking_curve(1, FIVE_TOPS[1]), [(30_001, 1, 0)]]))
+    return rate_calls("stages", random, table, [(number, stage) for number in (1, 2, 0, 3, LARGEST) for stage in STAGES])
+
+
+def rates_of_refused(random):
+    """Tables on every condition of rules 1 to 7 and just off it, also with a stage of 13, a gap, and a gauge that is not there."""
+    for river, edits in ((small_river, rule_edits()), (dam_river, dam_edits())):
+        for rule, edit in ((rule, edit) for rule, edit in edits if rule <= 7):
+            table, records = river()
+            edit(table, records)
+            asked = (1, 1_500), (1, 30_001), (2, GAP), (random.choice((0, 3, LARGEST)), random.choice((1_500, LARGEST)))
+            yield from rate_calls(f"rule {rule}", random, table_bytes(table), asked)
+
+
+def rates_of_spoiled(random):
+    """Tables cut and spoiled at each byte, and none."""
+    asked = ((1, 1_500), (2, 999), (2, 30_000), (2, 30_001), (3, 1_500))
+    for size in range(len(SMALL)):
+        yield from rate_calls(f"table cut at {size}", random, SMALL[:size], [random.choice(asked)])
+        value = random.choice(spoiled_values(SMALL[size]))
+        yield from rate_calls(f"table spoiled at {size} by {value}", random, spoiled(SMALL, size, value), [random.choice(asked)])
+    for side in (0, 1):
+        yield Call("no table", "rate", b"", noise_state(random), side=side, gauge=1, stage=side * 30_001)
+
+
+def mixed_curve(random):
+    """Pieces that take their stages, give 14 or do both, one after the other in any order."""
+    used = random.choice((1, 2, 3, 4, 5, 5))
+    tops = random.choice([*TOPS[used], (*sorted(random.sample(range(1, 30_001), used - 1)), 30_001),
+                          (*sorted(random.sample(range(1, 12), used - 1)), 30_001)])
+    pieces = []
+    for below, top in stages_of(tops):
+        foot = random.randint(below, top - 1)
+        pieces.append((top, *random.choice(((random.randint(1, 1_000), random.randint(0, 30_000)), ABOVE_ALL, (random.randint(1, 9), -30_000),
+                                            (random.randint(1, 1_000), -foot), (1_000_000, 2_000 - foot)))))
+    return pieces
+
+
+def random_looks(random):
+    curves = [random.choice((mixed_curve, mixed_curve, mixed_curve, some_curve))(random) for _ in range(random.choice((1, 3, 16)))]
+    asked = []
+    for _ in range(12):
+        number = random.randint(1, len(curves))
+        top = random.choice(curves[number - 1])[0]
+        stage = random.choice((0, top - 1, top - 1, top, top + 1, random.randint(0, 30_000), random.randint(0, 12)))
+        asked.append((number, min(30_000, stage)))
+    return rate_calls("random", random, table_bytes(river_of_curves(curves)), asked)
+
+
+def steps_of(table, records):
+    """A start and a step for each record, also after a refused one."""
+    def build(random):
+        data, noise = table_bytes(table), noise_state(random)
+        yield Call("start", "start", data, noise)
+        state = start(data, noise)
+        for number, given in enumerate(records, 1):
+            yield Call(f"record {number}", "step", data, state, record_bytes(*given), side=random.randrange(2))
+            try:
+                state = step(data, record_bytes(*given), state)
+            except Refused:
+                pass
+    return build
+
+
+def look_cases():
+    for used in range(1, 6):
+        yield f"rate: tops of {used}", looks_at_tops(used)
+        yield f"rate: foot of {used}", looks_at_feet(used)
+        yield f"rate: ceiling of {used}", looks_at_ceiling(used)
+    for name, build in (("largest table", rates_of_largest), ("gauge numbers", rates_by_gauge), ("stages", rates_by_stage),
+                        ("refused tables", rates_of_refused), ("spoiled tables", rates_of_spoiled)):
+        yield f"rate: {name}", build
+    yield from (("rate: random", random_looks) for _ in range(40))
+
+
 # ---- Several refusals at once --------------------------------------------------------------------------------------------------------------
 
 
@@ -711,4 +899,6 @@ def cases():
         found += [Case(name, build) for _ in range(count)]
     found += [Case("run", run_calls(), exact=True) for _ in range(40)] + [Case("run of 12", run_calls(12), exact=True) for _ in range(2)]
     found += [Case("check", check_calls), Case("version", version_calls), Case("last places", last_place_calls)]
+    found += [Case(name, build) for name, build in look_cases()]
+    found += [Case(f"curve: {name}", steps_of(table, records), exact=True) for name, table, records in curve_rivers()]
     return found

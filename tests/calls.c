@@ -2,10 +2,10 @@
  *
  *   gcc -O2 -Iinclude tests/calls.c target/staticlib/libriver.a
  *
- * A call: five numbers of 8 bytes in the machine's order (entry, side, bytes of table, bytes of record, numbers lent), then the table's
- * bytes, the record's bytes, the 450 numbers of the state and the lent numbers. A reply: refusal, count, whether all that the
+ * A call: seven numbers of 8 bytes in the machine's order (entry, side, bytes of table, bytes of record, numbers lent, gauge, stage), then
+ * the table's bytes, the record's bytes, the 450 numbers of the state and the lent numbers. A reply: refusal, count, whether all that the
  * host keeps stayed as it was, how many numbers follow, and these: the 450 of the state afterwards (start, step), all that were lent
- * (forecast), the plan's eight after its refusal (check), or the library's version and the header's (version).
+ * (forecast), the plan's eight after its refusal (check), the library's version and the header's (version), or discharge and pieces (rate).
  *
  * Table, record, state and lent numbers each end where a page without access begins (side 0) or begin where one ends (side 1), so that a
  * read or write past that end ends this program by a signal; so does a write into what a call is given to read alone.
@@ -17,7 +17,7 @@
 #include <sys/mman.h>
 #include "river.h"
 
-enum { START = 1, STEP = 2, FORECAST = 3, CHECK = 4, VERSION = 5 };
+enum { START = 1, STEP = 2, FORECAST = 3, CHECK = 4, VERSION = 5, RATE = 6 };
 enum { PAGE = 4096, ROOM = 128 * 1024, MARK = 0xA5, STATE_NUMBERS = 450 };
 _Static_assert(sizeof(river_state) == 8 * STATE_NUMBERS, "a state is 450 numbers");
 
@@ -106,11 +106,18 @@ static void version_call(void)
     reply(0, 0, inputs_stayed() && stayed(&state) && stayed(&numbers), 2, versions);
 }
 
+static void rate_call(uint64_t gauge, uint64_t stage)
+{
+    river_rating got = river_rate(table.at, table.size, gauge, stage);
+    uint64_t rating[2] = {got.discharge, got.pieces};
+    reply(got.refusal, 0, inputs_stayed() && stayed(&state) && stayed(&numbers), 2, rating);
+}
+
 int main(void)
 {
-    uint64_t head[5];
+    uint64_t head[7];
     make_room(&table), make_room(&record), make_room(&state), make_room(&numbers);
-    while (fread(head, 8, 5, stdin) == 5) {
+    while (fread(head, 8, 7, stdin) == 7) {
         int side = head[1] == 1, moves = head[0] == START || head[0] == STEP, writes = PROT_READ | PROT_WRITE;
         take(&table, head[2], side, PROT_READ);
         take(&record, head[3], side, PROT_READ);
@@ -121,6 +128,7 @@ int main(void)
         case FORECAST: forecast_call(); break;
         case CHECK: check_call(); break;
         case VERSION: version_call(); break;
+        case RATE: rate_call(head[5], head[6]); break;
         default: return 2;
         }
     }

@@ -5,7 +5,8 @@
     python3 tests/calls.py [--seed S] [--only K] [library]
 
 The library is target/staticlib/libriver.a unless another path is given; tests/calls.c is linked with it (gcc) and makes the calls. Compared
-are the refusal, all 450 numbers of the lent state or the count and all lent numbers, and whether the host's own memory stayed as it was.
+are the refusal, all 450 numbers of the lent state, the count and all lent numbers, or what a rate answers, and whether the host's own
+memory stayed as it was.
 Runs from a start are judged by the run in fractions too. The last line is "calls: N calls in M cases, F failed"; the exit code is 0 only
 where none failed. A failed case can be made again by its seed and number.
 """
@@ -23,7 +24,7 @@ from calculator.whole_numbers import RULES, Refused, decode_table
 from inputs import random_for
 
 ROOT = Path(__file__).resolve().parent.parent
-ENTRIES = {"start": 1, "step": 2, "forecast": 3, "check": 4, "version": 5}
+ENTRIES = {"start": 1, "step": 2, "forecast": 3, "check": 4, "version": 5, "rate": 6}
 VERSION = 3  # of the interface
 MOST_SHOWN = 20  # failed cases that are told of
 TIME_LIMIT = 60  # seconds for all calls
@@ -34,7 +35,7 @@ class Reply:
     refusal: int
     count: int  # numbers written by a forecast
     kept: int  # 1: all that the host keeps stayed as it was
-    numbers: array  # the state's afterwards, all that were lent, the plan's, or the versions of library and header
+    numbers: array  # the state's afterwards, all that were lent, the plan's, the versions of library and header, or discharge and pieces
 
 
 def state_numbers(state):
@@ -60,7 +61,9 @@ class Library:
     def refused(self, call, number):
         if call.entry == "forecast":
             return Reply(number, 0, 1, array("Q", call.lent))
-        return Reply(number, 0, 1, state_numbers(call.state) if call.entry != "check" else array("Q", [0] * 8))
+        if call.entry in ("check", "rate"):
+            return Reply(number, 0, 1, array("Q", [0] * (8 if call.entry == "check" else 2)))
+        return Reply(number, 0, 1, state_numbers(call.state))
 
     def start(self, call):
         return Reply(0, 0, 1, state_numbers(self.rules.start(call.table, call.state)))
@@ -81,6 +84,10 @@ class Library:
     def version(self, call):
         return Reply(0, 0, 1, array("Q", (VERSION, VERSION)))
 
+    def rate(self, call):
+        rating = self.rules.rate(call.table, call.gauge, call.stage)
+        return Reply(rating.refusal, 0, 1, array("Q", (rating.discharge, rating.pieces)))
+
 
 # ---- The built library -------------------------------------------------------------------------------------------------------------------
 
@@ -94,7 +101,7 @@ def built_driver(library):
 
 
 def call_bytes(call):
-    head = array("Q", (ENTRIES[call.entry], call.side, len(call.table), len(call.record), len(call.lent)))
+    head = array("Q", (ENTRIES[call.entry], call.side, len(call.table), len(call.record), len(call.lent), call.gauge, call.stage))
     return head.tobytes() + call.table + call.record + state_numbers(call.state).tobytes() + array("Q", call.lent).tobytes()
 
 
@@ -187,7 +194,8 @@ def compare(case, calls, expected, replies):
 
 
 def show(call, expected, reply):
-    print(f"{call.name}: {call.entry}, side {call.side}, {len(call.lent)} lent\n  table {call.table.hex()}\n  record {call.record.hex()}")
+    print(f"{call.name}: {call.entry}, side {call.side}, {len(call.lent)} lent, gauge {call.gauge}, stage {call.stage}")
+    print(f"  table {call.table.hex()}\n  record {call.record.hex()}")
     print(f"  state {list(state_numbers(call.state))}\n  expected {expected}\n  reply    {reply}")
 
 
