@@ -4,9 +4,10 @@
  *   calls FILE times ROUNDS           FILE holds a table and records, none of which is refused
  *   calls FILE count CALLS LIBRARY    LIBRARY is 0 for the proved one, 1 for plain C
  *
- * times: every call is made by both and the replies must be equal, also of some that are refused. Then both are timed in turn, a round
- * being about a thousandth of a second of processor time (no round: the replies alone). For each entry it prints its name, the medians
- * over the rounds in nanoseconds for a call (library, plain C), the median of the rounds' ratios, and the library's least time.
+ * times: every call is made by both and the replies must be equal, also of some that are refused. Then both are timed in turn, all but
+ * river_rate, a round being about a thousandth of a second of processor time (no round: the replies alone). For each entry it prints its
+ * name, the medians over the rounds in nanoseconds for a call (library, plain C), the median of the rounds' ratios, and the library's least
+ * time.
  * count: so many calls of each entry are made by the function count_calls, whose calls bench/run has counted.
  */
 #define _GNU_SOURCE
@@ -20,6 +21,7 @@ river_plan plain_check(const uint8_t *, size_t);
 uint64_t plain_start(const uint8_t *, size_t, river_state *);
 uint64_t plain_step(const uint8_t *, size_t, const uint8_t *, size_t, river_state *);
 river_written plain_forecast(const uint8_t *, size_t, const river_state *, uint64_t *, size_t);
+river_rating plain_rate(const uint8_t *, size_t, size_t, uint64_t);
 
 typedef struct {
     river_plan (*check)(const uint8_t *, size_t);
@@ -77,10 +79,22 @@ static void same_forecast(const river_state *state, size_t lent)
     if (memcmp(&one, &other, sizeof one) || memcmp(numbers[0], numbers[1], sizeof numbers[0])) fail("the forecasts differ");
 }
 
+/* Of every gauge and of one before and after them, with stages on each piece of bench/make_input.py's curves and off them. */
+static void same_rates(size_t size)
+{
+    static const uint64_t stages[] = {0, 599, 600, 1399, 1400, 1499, 1500, 2999, 3000, 5399, 5400, 30000, 30001, 65535, 65536};
+    for (size_t gauge = 0; gauge <= RIVER_MOST_GAUGES + 1; gauge++)
+        for (size_t k = 0; k < sizeof stages / sizeof *stages; k++) {
+            river_rating one = river_rate(input, size, gauge, stages[k]), other = plain_rate(input, size, gauge, stages[k]);
+            if (memcmp(&one, &other, sizeof one)) fail("the ratings differ");
+        }
+}
+
 /* Makes all calls once, which fills `states`. */
 static void compare_calls(void)
 {
     same_check(table_bytes - 1), same_check(table_bytes);
+    same_rates(table_bytes - 1), same_rates(table_bytes);
     same_start(table_bytes - 1, &states[0]), same_start(table_bytes, &states[0]);
     for (size_t k = 0; k < calls; k++) {
         states[k + 1] = same_step(records[k], record_bytes, states[k]);
