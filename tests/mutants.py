@@ -21,8 +21,8 @@ import paper
 import paper_figures
 from calculator import whole_numbers
 from calculator.program import Program, run
-from calculator.whole_numbers import (BASIN, CEILING, DAM, GAP, HIGHEST_RAIN, HIGHEST_STAGE, REACH, SCALE, Figures, Refused, Rules, State,
-                                      decode_table, number_at, under_ceiling)
+from calculator.whole_numbers import (BASIN, CEILING, DAM, GAP, HIGHEST_RAIN, HIGHEST_STAGE, REACH, SCALE, Figures, Rating, Refused, Rules,
+                                      State, decode_table, number_at, stage_in_range, under_ceiling)
 from call_cases import Watched, cases
 from calls import ROOT, Library, built_driver, compare, made_calls
 from inputs import SHAPES, inputs, random_for
@@ -213,15 +213,41 @@ class RainsInWrongOrder(Rules):
 class NextPieceAtTop(Rules):
     """Stage at or below the top, in place of below it."""
 
-    def readings(self, table, record):
-        rains, releases, readings = super().readings(table, record)
-        *_, stages = whole_numbers.record_fields(table, record)
-        for gauge, stage in zip(table.gauges, stages):
-            if stage != GAP:
-                piece = next(piece for piece in gauge.pieces if stage <= piece.top)
-                if 0 <= stage + piece.b and piece.a * (stage + piece.b) ** 2 // 1_000 <= CEILING:
-                    readings[gauge.element] = piece.a * (stage + piece.b) ** 2 // 1_000, gauge.noise
-        return rains, releases, readings
+    def look(self, gauge, stage):
+        return super().look(replace(gauge, pieces=tuple(replace(piece, top=piece.top + 1) for piece in gauge.pieces)), stage)
+
+
+class LastPieceFirst(Rules):
+    """The pieces are looked along from the last to the first."""
+
+    def look(self, gauge, stage):
+        return super().look(replace(gauge, pieces=gauge.pieces[:gauge.used][::-1]), stage)
+
+
+class GoesOnAfterFourteen(Rules):
+    """A piece that gives 14 is passed by."""
+
+    def look(self, gauge, stage):
+        for read, piece in enumerate(gauge.pieces[:gauge.used], 1):
+            try:
+                if stage < piece.top:
+                    return Rating(0, self.curve(piece, stage), read)
+            except Refused:
+                pass
+        return Rating(14, 0, gauge.used)
+
+
+class EveryPieceTested(Rules):
+    """Every piece on the way is tested for 14, also where the stage is not below its top."""
+
+    def look(self, gauge, stage):
+        right = super().look(gauge, stage)
+        for read, piece in enumerate(gauge.pieces[:right.pieces], 1):
+            try:
+                self.curve(piece, stage)
+            except Refused:
+                return Rating(14, 0, read)
+        return right
 
 
 class LastReadingForAll(Rules):
@@ -740,6 +766,133 @@ class RecordBytesWithoutReleases(Library):
         return reply
 
 
+class WrongLook(Rules):
+    """A right look whose rating is then spoiled where a printed output does not show it."""
+
+    def spoil(self, rating, gauge, stage):
+        raise NotImplementedError
+
+    def look(self, gauge, stage):
+        return self.spoil(super().look(gauge, stage), gauge, stage)
+
+
+class CountOfPiecesInUse(WrongLook):
+    def spoil(self, rating, gauge, stage):
+        return rating._replace(pieces=gauge.used)
+
+
+class CountFromZero(WrongLook):
+    def spoil(self, rating, gauge, stage):
+        return rating._replace(pieces=rating.pieces - 1)
+
+
+class CountFromLast(WrongLook):
+    """The right piece, found and counted from the last on."""
+
+    def spoil(self, rating, gauge, stage):
+        return rating._replace(pieces=gauge.used - rating.pieces + 1)
+
+
+class CountOfAllTops(WrongLook):
+    """All five tops are compared and those not above the stage counted: too many where pieces are not in use, as their tops are 0."""
+
+    def spoil(self, rating, gauge, stage):
+        return rating._replace(pieces=1 + sum(piece.top <= stage for piece in gauge.pieces))
+
+
+class NoCountAtFourteen(WrongLook):
+    def spoil(self, rating, gauge, stage):
+        return rating._replace(pieces=0) if rating.refusal else rating
+
+
+class LastFourteenAsNoPiece(WrongLook):
+    """14 of the last piece in use is told as of the one after it."""
+
+    def spoil(self, rating, gauge, stage):
+        return rating._replace(pieces=gauge.used + 1) if rating.refusal and rating.pieces == gauge.used else rating
+
+
+class DischargeAtFourteen(WrongLook):
+    def spoil(self, rating, gauge, stage):
+        piece = gauge.pieces[rating.pieces - 1]
+        return rating._replace(discharge=piece.a * (stage + piece.b) ** 2 // 1_000)
+
+
+class ThirteenNotJudged(Rules):
+    """A rate takes a stage above 30,000 by the last piece."""
+
+    def rate(self, table_bytes, number, stage):
+        gauges = decode_table(table_bytes).gauges
+        if not stage_in_range(stage) and 1 <= number <= len(gauges):
+            return self.look(gauges[number - 1], stage)
+        return super().rate(table_bytes, number, GAP if stage > GAP else stage)
+
+
+class ThirteenAfterGauge(Rules):
+    """A gauge that is not there is answered before 13 is judged."""
+
+    def rate(self, table_bytes, number, stage):
+        there = 1 <= number <= len(decode_table(table_bytes).gauges)
+        return super().rate(table_bytes, number, stage if there else 0)
+
+
+class ThirteenBeforeTable(Rules):
+    def rate(self, table_bytes, number, stage):
+        if not stage_in_range(stage):
+            raise Refused(13)
+        return super().rate(table_bytes, number, stage)
+
+
+class NoGaugeBeforeTable(Rules):
+    """Gauge 0 is answered before the table is judged."""
+
+    def rate(self, table_bytes, number, stage):
+        return super().rate(table_bytes, number, stage) if number else Rating(0, 0, 0)
+
+
+class GapLookedAlong(Rules):
+    """A rate takes a gap as stage 65,535, by the last piece."""
+
+    def rate(self, table_bytes, number, stage):
+        right = super().rate(table_bytes, number, stage)
+        gauges = decode_table(table_bytes).gauges
+        return self.look(gauges[number - 1], stage) if stage == GAP and 1 <= number <= len(gauges) else right
+
+
+class GapAsThirteen(Rules):
+    def rate(self, table_bytes, number, stage):
+        return super().rate(table_bytes, number, stage + (stage == GAP))
+
+
+class GaugeFromZero(Rules):
+    def rate(self, table_bytes, number, stage):
+        return super().rate(table_bytes, number + 1, stage)
+
+
+class GaugeOfLowHalf(Rules):
+    def rate(self, table_bytes, number, stage):
+        return super().rate(table_bytes, number % 2 ** 32, stage)
+
+
+class StageOfTwoBytes(Rules):
+    bits = 16
+
+    def rate(self, table_bytes, number, stage):
+        return super().rate(table_bytes, number, stage % 2 ** self.bits)
+
+
+class StageOfLowHalf(StageOfTwoBytes):
+    bits = 32
+
+
+class SevenForNoGauge(Rules):
+    def rate(self, table_bytes, number, stage):
+        right = super().rate(table_bytes, number, stage)
+        if not 1 <= number <= len(decode_table(table_bytes).gauges):
+            raise Refused(7)
+        return right
+
+
 class LooksBeyond(Rules):
     """Rule 8 on one place more than N."""
 
@@ -831,8 +984,13 @@ REACHING_THE_CEILING = ("basin inflow", "reach inflow", "reach inflow margin", "
 
 # Standard input does not reach what these look at.
 ONLY_LIBRARIES = (LooksBeyond, LooksAtReachRains, LooksAtDamRains, LooksNotAtDams, LooksNotAtLastPlace, LowHalves, AllThreeRains,
-                  DamKeepsMargin, DamKeepsVarianceMargin)
-NO_PROGRAMS = (Rules, Program, WrongAnswer, Watched, LooksNotAt, CeilingOf, *ONLY_LIBRARIES)
+                  DamKeepsMargin, DamKeepsVarianceMargin, CountOfPiecesInUse, CountFromZero, CountFromLast, CountOfAllTops,
+                  NoCountAtFourteen, LastFourteenAsNoPiece, DischargeAtFourteen, ThirteenNotJudged, ThirteenAfterGauge,
+                  ThirteenBeforeTable, NoGaugeBeforeTable, GapLookedAlong, GapAsThirteen, GaugeFromZero, GaugeOfLowHalf, StageOfTwoBytes,
+                  StageOfLowHalf, SevenForNoGauge)
+# Wrong programs that are wrong libraries too: a rate shows more of them than standard input.
+WRONG_LOOKS = (NextPieceAtTop, LastPieceFirst, GoesOnAfterFourteen, EveryPieceTested)
+NO_PROGRAMS = (Rules, Program, WrongAnswer, WrongLook, Watched, LooksNotAt, CeilingOf, *ONLY_LIBRARIES)
 
 
 def libraries():
@@ -841,6 +999,8 @@ def libraries():
             yield wrong.__name__, wrong()
     for wrong in ONLY_LIBRARIES:
         yield wrong.__name__, Library(wrong())
+    for wrong in WRONG_LOOKS:
+        yield f"{wrong.__name__} in calls", Library(wrong())
     for number in range(7):
         wrong = LooksNotAt()
         wrong.number = number
@@ -890,6 +1050,20 @@ WRONG_IN_C = {
     "a dam's leads are the state": ("        own[lead] = held;\n", "        own[lead] = held = own[0];\n"),
     "a down may name no dam": ("+ KIND] == BASIN)) refusal = 6;", "+ KIND] != REACH)) refusal = 6;"),
     "a lag of 0 for all kinds": ("return be2(e + LAG) >= step_minutes &&", "return (be2(e + LAG) == 0 || be2(e + LAG) >= step_minutes) &&"),
+    "a look counts from 0": ("    size_t pieces = 1;\n", "    size_t pieces = 0;\n"),
+    "a look hands out a discharge with 14": ("return (river_rating){14, 0, pieces};", "return (river_rating){14, z, pieces};"),
+    "a look has h + b in 16 bits": ("    int depth = (int)h + (int16_t)be2(piece + OFFSET);\n",
+                                    "    int depth = (int16_t)(h + be2(piece + OFFSET));\n"),
+    "a look has z in 32 bits": ("    u64 z = be4(piece + FACTOR) *", "    u32 z = be4(piece + FACTOR) *"),
+    "a rate judges the low half of its stage": ("stage > HIGHEST_STAGE && stage != GAP) refusal = 13;",
+                                                "(u32)stage > HIGHEST_STAGE && (u32)stage != GAP) refusal = 13;"),
+    "a rate does not judge 13": ("    if (!refusal && stage > HIGHEST_STAGE && stage != GAP) refusal = 13;\n", ""),
+    "a rate looks along the gauge after the last": ("gauge > t.gauge_count) return (river_rating)",
+                                                    "gauge > t.gauge_count + 1) return (river_rating)"),
+    "a rate takes any gauge": ("|| gauge < 1 || gauge > t.gauge_count) return (river_rating)", ") return (river_rating)"),
+    "a rate writes into its table what stands there": ("    if (!refusal && stage > HIGHEST_STAGE",
+                                                       "    if (!refusal) *(volatile u8 *)table = table[0];\n"
+                                                       "    if (!refusal && stage > HIGHEST_STAGE"),
     "an old library": ("return RIVER_VERSION;", "return RIVER_VERSION - 1;"),
 }
 
