@@ -275,6 +275,24 @@ def one_reading():
     {n(after.discharge)} {n(after.margin)} {after.variance} {after.variance_margin}"""
 
 
+def look_written(gauge, stage):
+    """One row: the tops that the stage was held against, the count, h + b, and z or 14."""
+    found = RULES.look(gauge, stage)
+    tops, piece = [n(each.top) for each in gauge.pieces[:found.pieces]], gauge.pieces[found.pieces - 1]
+    depth = stage + piece.b
+    row = f"{n(stage)} {' '.join(tops)} {found.pieces} {n(depth)}"
+    z = "" if depth < 0 else f" {n(piece.a)} × {n(depth)}² / {n(1_000)} = {n(piece.a * depth ** 2 // 1_000)}" if depth else " 0"
+    assert found.refusal or z.endswith(n(found.discharge))
+    return row + z + (f" {found.refusal}" if found.refusal else "")
+
+
+def one_look():
+    pieces = (1_000, 20_000, -500), (2_500, 15_000, -300), (30_001, 12_000, 200)
+    gauge = decode_table(tried_figures.one_reach(pieces)).gauges[0]
+    rows = [look_written(gauge, stage) for stage in (499, 500, 999, 1_000, 2_499, 2_500, 30_000)]
+    return " ".join([*(n(number) for piece in pieces for number in piece), *rows])
+
+
 def table_told():
     """The example river's table and first record in words."""
     table = decode_table(TABLE)
@@ -568,8 +586,8 @@ def refused_with(down=0, rain=3_000, release=0, stage=30_000):
 
 def worked():
     """By name of the example: its numbers as text, in the page's order."""
-    return {"the weight": the_weight, "one move": one_move, "one reading": one_reading, "one step of a river": one_step,
-            "one lead": one_lead, "the mean of the last rains": later_rains, "a river with a dam": river_with_a_dam,
+    return {"the weight": the_weight, "one move": one_move, "one look along a curve": one_look, "one reading": one_reading,
+            "one step of a river": one_step, "one lead": one_lead, "the mean of the last rains": later_rains, "a river with a dam": river_with_a_dam,
             "the weight's 3": weight_errors,
             "margins of the sample river": sample_margins, "noise from a doubt": noises, "rain, stage and curve": rain_and_curve,
             "the highest rain of a basin": basin_sizes, "the sum of variances": variance_sum,

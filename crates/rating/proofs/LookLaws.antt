@@ -86,12 +86,12 @@ module _ (h : ℕ) (curve : Curve) (i : ℕ) (used : i < curve .count) where
   passed-in-use reached top = reached-more h (piecesOf curve) i reached (rw in-use top)
 
   pub found-in-use :
-      {found-by : Look}
+      {look : Look}
       → TopsReached h (piecesOf curve) i
       → h < getD (curve .pieces) i noPiece .top .0
-      → found-by .answer ≡ onPiece h (getD (curve .pieces) i noPiece)
-      → found-by .pieces ≡ i + 1
-      → found-by ≡ lookAlong h (piecesOf curve)
+      → look .answer ≡ onPiece h (getD (curve .pieces) i noPiece)
+      → look .pieces ≡ i + 1
+      → look ≡ lookAlong h (piecesOf curve)
   found-in-use reached below answer pieces =
       rw (found h (piecesOf curve) i reached (rw in-use below), in-use, ← answer, ← pieces)
 
