@@ -1,15 +1,11 @@
-// The entries of document 01, start, step and forecast, on the bytes of a table and on lent numbers; and the look along one curve.
-ghost use mathlib.Core.Path.{_≡_};
+// The entries of document 01: start, step and forecast, on the bytes of a table and on lent numbers.
 ghost use lib.ListN.{length};
-ghost use Rattle.rating.specs.Looks.{lookOf};
 ghost use Rattle.table.specs.Bounds.{Counted};
 ghost use Rattle.table.specs.InUse.{tableIn};
 ghost use Rattle.state.specs.Answers.{Answered};
 ghost use Rattle.network.specs.Lent.{Lent};
-ghost use Rattle.entries.specs.Entries.{startAnswer, stepOnAnswer, stepAnswer, forecastOnAnswer, forecastAnswer, ratingAnswer};
-use gauge_look::look_at_field;
+ghost use Rattle.entries.specs.Entries.{startAnswer, stepOnAnswer, stepAnswer, forecastOnAnswer, forecastAnswer};
 use network::ForecastAnswer;
-use rating::RatingAnswer;
 use record_step::step_from;
 use refusal::Refusal;
 use refusal::Verdict;
@@ -87,18 +83,5 @@ pub fn forecast(table: &[u8], state: &[u64; STATE_NUMBERS], out: &mut [u64]) -> 
     match verdict {
         Verdict::Accepted => forecast_counted(table, read.counts, state, out),
         Verdict::Refused(refusal) => ForecastAnswer::Refused(refusal),
-    }
-}
-
-// A stage field on the curve of gauge k, counted from 1, on the bytes of a table: rules 1 to 7, 13 and 14.
-pub fn rate(table: &[u8], k: usize, field: u64) -> RatingAnswer
-    ensures { λ r. ⌜ lookOf r ≡ ratingAnswer (now (table .entry)) k field ⌝ }
-{
-    let read = table_reader::read(table);
-    let verdict = read.verdict;
-    let counts = read.counts;
-    match verdict {
-        Verdict::Accepted => look_at_field(table, counts.elements, counts.gauges, k, field),
-        Verdict::Refused(refusal) => RatingAnswer::Refused(refusal, 0),
     }
 }

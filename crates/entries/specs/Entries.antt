@@ -1,16 +1,14 @@
 -- Document 01, Numbers for no: "Starting uses 1 to 7; a step 1 to 14 and 16; a forecast 1 to 8, 15 and 16."; document 02, M-100: a step 17
--- too, "between 12 and 13"; the call `rate` (docs/DECISIONS.md) 1 to 7, 13 and 14.
+-- too, "between 12 and 13".
 use Prim.Native.Nat.{ℕ}
 use mathlib.Core.List.{List}
-use Rattle.refusal.specs.Answers.{Answer, accepted, refused, rule}
+use Rattle.refusal.specs.Answers.{Answer, accepted, rule}
 use Rattle.units.specs.Ceiling.{underCeiling}
-use Rattle.rating.specs.Looks.{Look}
 use Rattle.method.specs.declared.Figures.{Figures}
 use Rattle.table.specs.Tables.{TableValues}
 use Rattle.table.specs.InUse.{tableIn}
 use Rattle.table.specs.Rules.{tableRules}
 use Rattle.record.specs.Records.{inputAt}
-use Rattle.gauge_look.specs.GaugeLooks.{noLook, fieldLook}
 use Rattle.record.specs.Rules.{recordRules}
 use Rattle.state.specs.States.{State}
 use Rattle.state.specs.Rules.{stateFits, stepsLeft}
@@ -40,11 +38,3 @@ forecastOnAnswer t s room = rule 8 (stateFits t s) (leadsAnswer t s room)
 -- a forecast on the bytes of a table
 unfoldable pub forecastAnswer : List ℕ → State → ℕ → Answer (List Figures)
 forecastAnswer table s room = tableRules table (forecastOnAnswer (tableIn table) s room)
-
--- a stage field on the curve of gauge k, counted from 1, on the bytes of a table
-unfoldable pub ratingAfter : Answer TableValues → ℕ → ℕ → Look
-ratingAfter (accepted t) k field = fieldLook t k field
-ratingAfter (refused n) k field = noLook (refused n)
-
-unfoldable pub ratingAnswer : List ℕ → ℕ → ℕ → Look
-ratingAnswer table k field = ratingAfter (tableRules table (accepted (tableIn table))) k field

@@ -1,6 +1,7 @@
--- A stage on the curve of one gauge, by itself (the call `rate`, docs/DECISIONS.md): rules 13 and 14, and M-101's number of pieces.
+-- A stage on the curve of one gauge, by itself (the call `rate`, docs/DECISIONS.md): rules 1 to 7, 13 and 14, and M-101's number of pieces.
 use Prim.Native.Nat.{ℕ, _-_}
 use mathlib.Core.Bool.{cond}
+use mathlib.Core.List.{List}
 use lib.Dec.{leb}
 use Rattle.refusal.specs.Answers.{Answer, accepted, refused}
 use Rattle.units.specs.Units.{grains}
@@ -9,6 +10,8 @@ use Rattle.rating.specs.Rating.{piecesOf}
 use Rattle.rating.specs.Looks.{Look, lookAlong}
 use Rattle.fields.specs.Ranges.{inRange}
 use Rattle.table.specs.Tables.{TableValues}
+use Rattle.table.specs.Rules.{tableRules}
+use Rattle.table.specs.InUse.{tableIn}
 use Rattle.record.specs.declared.Reading.{Reading}
 use Rattle.record.specs.declared.Reading.the-variants.{At, Gap}
 use Rattle.record.specs.Records.{readingOf}
@@ -29,3 +32,11 @@ readingLook t k (At h) = cond (leb (h .0) 30000) (gaugeLook t k (h .0)) (noLook 
 -- the stage field
 unfoldable pub fieldLook : TableValues → ℕ → ℕ → Look
 fieldLook t k field = readingLook t k (readingOf field)
+
+-- on the bytes of a table
+unfoldable pub ratingAfter : Answer TableValues → ℕ → ℕ → Look
+ratingAfter (accepted t) k field = fieldLook t k field
+ratingAfter (refused n) k field = noLook (refused n)
+
+unfoldable pub ratingAnswer : List ℕ → ℕ → ℕ → Look
+ratingAnswer table k field = ratingAfter (tableRules table (accepted (tableIn table))) k field

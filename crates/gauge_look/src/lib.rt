@@ -1,18 +1,20 @@
-// A stage on the curve of one gauge, by itself: the call `rate` on an accepted table.
+// A stage on the curve of one gauge, by itself: the call `rate`.
 ghost use mathlib.Core.Path.{_≡_};
 ghost use Prim.Native.Nat.{_≤_};
 ghost use Rattle.rating.specs.Looks.{lookOf};
 ghost use Rattle.table.specs.Bounds.{CountedTable};
 ghost use Rattle.table.specs.InUse.{tableIn};
-ghost use Rattle.gauge_look.specs.GaugeLooks.{gaugeLook, fieldLook};
+ghost use Rattle.gauge_look.specs.GaugeLooks.{gaugeLook, fieldLook, ratingAnswer};
 use rating::RatingAnswer;
 use readings::reading_of;
 use record::Reading;
 use refusal::Refusal;
+use refusal::Verdict;
 use stage_curve::look_along;
 use units::Discharge;
 
-// The look along the curve of gauge k, counted from 1, of a table with n elements and m gauges; no piece where it has no such gauge.
+// The look along the curve of gauge k, counted from 1, of an accepted table with n elements and m gauges; no piece where it has no such
+// gauge.
 fn look_at(table: &[u8], n: usize, m: usize, k: usize, stage: u64) -> RatingAnswer
     requires { ⌜ CountedTable (now table) n m × (stage ≤ 30000) ⌝ }
     ensures { λ r. ⌜ lookOf r ≡ gaugeLook (tableIn (now (table .entry))) k stage ⌝ }
@@ -27,7 +29,7 @@ fn look_at(table: &[u8], n: usize, m: usize, k: usize, stage: u64) -> RatingAnsw
 }
 
 // The same of a stage field: no piece for a gap or a stage that 13 refuses.
-pub fn look_at_field(table: &[u8], n: usize, m: usize, k: usize, field: u64) -> RatingAnswer
+fn look_at_field(table: &[u8], n: usize, m: usize, k: usize, field: u64) -> RatingAnswer
     requires { ⌜ CountedTable (now table) n m ⌝ }
     ensures { λ r. ⌜ lookOf r ≡ fieldLook (tableIn (now (table .entry))) k field ⌝ }
 {
@@ -41,5 +43,18 @@ pub fn look_at_field(table: &[u8], n: usize, m: usize, k: usize, field: u64) -> 
             }
             look_at(table, n, m, k, h)
         }
+    }
+}
+
+// The same on the bytes of a table: rules 1 to 7, 13 and 14.
+pub fn rate(table: &[u8], k: usize, field: u64) -> RatingAnswer
+    ensures { λ r. ⌜ lookOf r ≡ ratingAnswer (now (table .entry)) k field ⌝ }
+{
+    let read = table_reader::read(table);
+    let verdict = read.verdict;
+    let counts = read.counts;
+    match verdict {
+        Verdict::Accepted => look_at_field(table, counts.elements, counts.gauges, k, field),
+        Verdict::Refused(refusal) => RatingAnswer::Refused(refusal, 0),
     }
 }

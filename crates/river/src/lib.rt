@@ -7,7 +7,8 @@ ghost use Rattle.table.specs.InUse.{tableIn};
 ghost use Rattle.table.specs.Rules.{tableRules};
 ghost use Rattle.rating.specs.Looks.{lookOf};
 ghost use Rattle.network.specs.Lent.{countAnswer};
-ghost use Rattle.entries.specs.Entries.{startAnswer, stepAnswer, forecastAnswer, ratingAnswer};
+ghost use Rattle.entries.specs.Entries.{startAnswer, stepAnswer, forecastAnswer};
+ghost use Rattle.gauge_look.specs.GaugeLooks.{ratingAnswer};
 ghost use Rattle.river.specs.Held.{CountsSmall, PlanAsked};
 ghost use Rattle.river.specs.Replies.{version, refusalOf, noPlan, planReply, writtenReply, ratingReply, StateReplied, ForecastReplied};
 use network::ForecastAnswer;
@@ -186,6 +187,6 @@ pub extern "C" fn river_forecast(
 pub extern "C" fn river_rate(table: &[u8], gauge: usize, stage: u64) -> Rating
     ensures { λ r. ⌜ r ≡ ratingReply (ratingAnswer (now (table .entry)) gauge stage) ⌝ }
 {
-    let answer = engine::rate(table, gauge, stage);
+    let answer = gauge_look::rate(table, gauge, stage);
     rating_reply(answer)
 }

@@ -2,10 +2,9 @@
 use borrow.Author.Needs.{needs}
 use Rattle.table.proofs.HeldLaws.{table-accepted, table-refused, counted-table}
 use Rattle.table.proofs.TableLaws.{rules-accepted, rules-refused}
-use Rattle.gauge_look.specs.GaugeLooks.{noLook}
-use Rattle.entries.specs.Entries.{ratingAfter, ratingAnswer}
-use Rattle.engine.proofs.rate.Statement.{statement}
-use Rattle.engine.proofs.rate.Tie as tie
+use Rattle.gauge_look.specs.GaugeLooks.{noLook, ratingAfter, ratingAnswer}
+use Rattle.gauge_look.proofs.rate.Statement.{statement}
+use Rattle.gauge_look.proofs.rate.Tie as tie
 
 read-requires : tie.Need-read-requires
 read-requires c κs = search needs
