@@ -29,13 +29,9 @@ unfoldable pub readingLook : TableValues → ℕ → Reading → Look
 readingLook t k Gap = noLook (accepted (grains 0))
 readingLook t k (At h) = cond (leb (h .0) 30000) (gaugeLook t k (h .0)) (noLook (refused 13))
 
--- the stage field
-unfoldable pub fieldLook : TableValues → ℕ → ℕ → Look
-fieldLook t k field = readingLook t k (readingOf field)
-
--- on the bytes of a table
+-- the stage field, on the bytes of a table
 unfoldable pub ratingAfter : Answer TableValues → ℕ → ℕ → Look
-ratingAfter (accepted t) k field = fieldLook t k field
+ratingAfter (accepted t) k field = readingLook t k (readingOf field)
 ratingAfter (refused n) k field = noLook (refused n)
 
 unfoldable pub ratingAnswer : List ℕ → ℕ → ℕ → Look

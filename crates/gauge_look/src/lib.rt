@@ -4,7 +4,8 @@ ghost use Prim.Native.Nat.{_≤_};
 ghost use Rattle.rating.specs.Looks.{lookOf};
 ghost use Rattle.table.specs.Bounds.{CountedTable};
 ghost use Rattle.table.specs.InUse.{tableIn};
-ghost use Rattle.gauge_look.specs.GaugeLooks.{gaugeLook, fieldLook, ratingAnswer};
+ghost use Rattle.record.specs.Records.{readingOf};
+ghost use Rattle.gauge_look.specs.GaugeLooks.{gaugeLook, readingLook, ratingAnswer};
 use rating::RatingAnswer;
 use readings::reading_of;
 use record::Reading;
@@ -31,7 +32,7 @@ fn look_at(table: &[u8], n: usize, m: usize, k: usize, stage: u64) -> RatingAnsw
 // The same of a stage field: no piece for a gap or a stage that 13 refuses.
 fn look_at_field(table: &[u8], n: usize, m: usize, k: usize, field: u64) -> RatingAnswer
     requires { ⌜ CountedTable (now table) n m ⌝ }
-    ensures { λ r. ⌜ lookOf r ≡ fieldLook (tableIn (now (table .entry))) k field ⌝ }
+    ensures { λ r. ⌜ lookOf r ≡ readingLook (tableIn (now (table .entry))) k (readingOf field) ⌝ }
 {
     let reading = reading_of(field);
     match reading {

@@ -14,7 +14,8 @@ use Rattle.rating.specs.declared.RatingAnswer.{RatingAnswer}
 use Rattle.rating.specs.declared.RatingAnswer.the-variants.{Accepted, Refused}
 use Rattle.rating.specs.Rating.{pieceFor, rated, noPiece}
 
--- "the number of the piece that 01 takes", counted from 1: of "the first piece with stage below its top" (`pieceFor`)
+-- "the number of the piece that 01 takes", counted from 1: of "the first piece with stage below its top" (`pieceFor`). In an accepted table
+-- there is always one.
 unfoldable pub pieceNumber : ℕ → List Piece → ℕ
 pieceNumber h [] = 0
 pieceNumber h (p ∷ ps) = cond (ltb h (p .top .0)) 1 (pieceNumber h ps + 1)
@@ -32,8 +33,8 @@ abbrev pub lookOf : RatingAnswer → Look
 lookOf (Accepted z pieces) = record { answer = accepted z; pieces = pieces }
 lookOf (Refused r pieces) = record { answer = refused (number r); pieces = pieces }
 
--- piece k, counted from 1, is the piece that document 01 takes: one of the pieces, the one that `pieceFor` answers, with the stage below its
--- top, and no piece before it has
+-- piece k, counted from 1, is the piece that document 01 takes: one of the pieces, the one that `pieceFor` answers; the stage is below its
+-- top and not below the top of any piece before it
 pub record PieceTaken (h : ℕ) (pieces : List Piece) (k : ℕ) : Type 0 where
   pub least : 1 ≤ k
   pub most : k ≤ length pieces
