@@ -7,7 +7,7 @@
  * A refused call leaves the state and the lent numbers as they were. No call keeps anything or allocates memory, so any number of rivers
  * and threads can call at a time; a call takes up to 32 KB of its thread's stack.
  * A pointer must be valid for as many bytes or numbers as the length after it says, must not be null (also where the length is 0), and
- * what a call writes (the state of a start or a step, the numbers of a forecast) must not overlap anything else that it is given.
+ * what a call writes (the state of a start or a step, the numbers of a forecast or a trial) must not overlap anything else that it is given.
  *
  * Discharges and their margins are in grains of 0.000001 m3/s, variances and theirs in 0.001 (m3/s)^2.
  */
@@ -46,7 +46,7 @@ enum {
     RIVER_REFUSED_RELEASE_RANGE = 17,   /* a release is above C; judged after 12 and before 13 */
     RIVER_REFUSED_STAGE_RANGE = 13,     /* a stage is above 30,000 and not 65535, which is a gap */
     RIVER_REFUSED_READING_RANGE = 14,   /* a stage lies below its curve, or the curve gives more than C */
-    RIVER_REFUSED_ANSWER_SPACE = 15,    /* fewer numbers are lent than the forecast has */
+    RIVER_REFUSED_ANSWER_SPACE = 15,    /* fewer numbers are lent than the forecast or the trial has */
     RIVER_REFUSED_ABOVE_CEILING = 16    /* some figure of this call, or a number on the way to it, would pass C */
 };
 
@@ -85,7 +85,7 @@ typedef struct {
     uint64_t step_minutes;
 } river_plan;
 
-/* How many numbers a forecast has written; 0 where it is refused. */
+/* How many numbers a forecast or a trial has written; 0 where it is refused. */
 typedef struct {
     uint64_t refusal;
     size_t count;
@@ -116,11 +116,18 @@ uint64_t river_step(const uint8_t *table, size_t table_bytes, const uint8_t *rec
  * lies after the last of them stays. */
 river_written river_forecast(const uint8_t *table, size_t table_bytes, const river_state *state, uint64_t *numbers, size_t numbers_lent);
 
+/* A trial of a step on a record: what the step would leave in the state, which stays. It refuses as the step would, with 15 (fewer than
+ * 4 N numbers lent) after 14 and before 16: rules 1 to 12, 17, 13, 14, 15, 16. By element it writes discharge, margin, variance and
+ * variance margin, as a forecast of lead 0 alone: those of element e (from 1) begin at numbers[4 * (e - 1)]. What lies after the last of
+ * them stays. */
+river_written river_trial(const uint8_t *table, size_t table_bytes, const uint8_t *record, size_t record_bytes, const river_state *state,
+                          uint64_t *numbers, size_t numbers_lent);
+
 /* Looks along the curve of a gauge (from 1, in the table's order) with a stage in millimetres, as a step does with a reading: rules 1 to 7,
  * 13 and 14. */
 river_rating river_rate(const uint8_t *table, size_t table_bytes, size_t gauge, uint64_t stage);
 
-/* The figures of an element (from 1) at a lead (from 0) in the numbers of a forecast. */
+/* The figures of an element (from 1) at a lead (from 0) in the numbers of a forecast; of a trial with leads 0 and lead 0. */
 static inline river_figures river_figures_at(const uint64_t *numbers, size_t leads, size_t element, size_t lead)
 {
     const uint64_t *at = numbers + 4 * ((element - 1) * (leads + 1) + lead);
