@@ -1,4 +1,5 @@
-"""Document 01, "The run in fractions", with M-100's dams: the same steps with exact F, no rounding, no margins and no ceiling.
+"""Document 01, "The run in fractions", with M-100's dams and M-102's trials: the same steps with exact F, no rounding, no margins and no
+ceiling.
 
 It is fed an accepted table, the records of accepted steps and nothing else, decodes them by itself and keeps its own state, so that it
 shares no line with whole_numbers.py.
@@ -135,7 +136,8 @@ class FractionsRun:
             new.append((x, v))
         return new
 
-    def step(self, record):
+    def step_input(self, record):
+        """By place: the rains, the releases, and z and R of the readings."""
         counts = len(self.basins), len(self.dams), len(self.gauges)
         fields = unpack(">{}H{}I{}H".format(*counts), record[3:])
         rains, rest = dict(zip(self.basins, fields)), fields[len(self.basins):]
@@ -145,15 +147,25 @@ class FractionsRun:
             if stage != 65_535:
                 _, a, b = next(piece for piece in pieces if stage < piece[0])
                 readings[element - 1] = Fraction(a * (stage + b) ** 2, 1_000), noise
-        self.read |= readings.keys()
+        return rains, releases, readings
 
+    def stepped(self, rains, releases, readings):
         def rain_inflow(place):
             return Fraction(5 * rains[place] * self.elements[place][3] * self.elements[place][4], 18), 0
 
-        self.figures = self.moved(self.figures, rain_inflow, releases, readings)
+        return self.moved(self.figures, rain_inflow, releases, readings)
+
+    def step(self, record):
+        rains, releases, readings = self.step_input(record)
+        self.figures = self.stepped(rains, releases, readings)
+        self.read |= readings.keys()
         self.steps += 1
         for place in self.basins:
             self.rains[place] = [rains[place]] + self.rains[place][:2]
+
+    def trial(self, record):
+        """(discharge, variance) by element as a step would leave them; the run itself stays."""
+        return self.stepped(*self.step_input(record))
 
     def forecast(self):
         """(discharge, variance) by lead 0 to L, then by element; the run itself stays."""
