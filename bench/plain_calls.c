@@ -30,21 +30,46 @@ uint64_t NAMED(start)(const uint8_t *table, size_t table_bytes, river_state *sta
     return refusal;
 }
 
+/* All that a step and a trial are refused by before rules 15 and 16. */
+static INLINE u32 judge_step(Table *t, const u8 *table, size_t table_bytes, const u8 *record, size_t record_bytes, const river_state *state,
+                             Reading *readings)
+{
+    u32 refusal = read_table(t, table, table_bytes);
+    if (!refusal) refusal = judge_state(t, state);
+    if (!refusal && state->steps == MOST_STEPS) refusal = 9;
+    if (!refusal) refusal = judge_record(t, record, record_bytes, readings);
+    return refusal;
+}
+
 uint64_t NAMED(step)(const uint8_t *table, size_t table_bytes, const uint8_t *record, size_t record_bytes, river_state *state)
 {
     Table t;
     u64 weights[MOST_PLACES];
     Reading readings[MOST_GAUGES + 1];
     Figures space[MOST_PLACES + 1];
-    u32 refusal = read_table(&t, table, table_bytes);
-    if (!refusal) refusal = judge_state(&t, state);
-    if (!refusal && state->steps == MOST_STEPS) refusal = 9;
-    if (!refusal) refusal = judge_record(&t, record, record_bytes, readings);
+    u32 refusal = judge_step(&t, table, table_bytes, record, record_bytes, state, readings);
     if (refusal) return refusal;
     weigh(&t, weights);
     if (step_elements(&t, weights, record + 3, readings, state, space)) return 16;
     set_next_values(&t, record + 3, space, state);
     return 0;
+}
+
+river_written NAMED(trial)(const uint8_t *table, size_t table_bytes, const uint8_t *record, size_t record_bytes, const river_state *state,
+                           uint64_t *numbers, size_t numbers_lent)
+{
+    Table t;
+    u64 weights[MOST_PLACES];
+    Reading readings[MOST_GAUGES + 1];
+    Figures space[MOST_PLACES + 1];
+    u32 refusal = judge_step(&t, table, table_bytes, record, record_bytes, state, readings);
+    if (refusal) return (river_written){refusal, 0};
+    size_t count = 4 * t.count;
+    if (numbers_lent < count) return (river_written){15, 0};
+    weigh(&t, weights);
+    if (step_elements(&t, weights, record + 3, readings, state, space)) return (river_written){16, 0};
+    memcpy(numbers, space + 1, sizeof *numbers * count);
+    return (river_written){0, count};
 }
 
 river_written NAMED(forecast)(const uint8_t *table, size_t table_bytes, const river_state *state, uint64_t *numbers, size_t numbers_lent)
