@@ -8,7 +8,8 @@
  * river_rate, a round being about a thousandth of a second of processor time (no round: the replies alone). For each entry it prints its
  * name, the medians over the rounds in nanoseconds for a call (library, plain C), the median of the rounds' ratios, and the library's least
  * time.
- * count: so many calls of each entry are made by the function count_calls, whose calls bench/run has counted.
+ * count: so many calls of each entry are made by the function count_calls, whose calls bench/run has counted; after each round as many
+ * numbers as a trial answers are copied by write_out.
  */
 #define _GNU_SOURCE
 #include <stdio.h>
@@ -21,6 +22,7 @@ river_plan plain_check(const uint8_t *, size_t);
 uint64_t plain_start(const uint8_t *, size_t, river_state *);
 uint64_t plain_step(const uint8_t *, size_t, const uint8_t *, size_t, river_state *);
 river_written plain_forecast(const uint8_t *, size_t, const river_state *, uint64_t *, size_t);
+river_written plain_trial(const uint8_t *, size_t, const uint8_t *, size_t, const river_state *, uint64_t *, size_t);
 river_rating plain_rate(const uint8_t *, size_t, size_t, uint64_t);
 
 typedef struct {
@@ -28,10 +30,11 @@ typedef struct {
     uint64_t (*start)(const uint8_t *, size_t, river_state *);
     uint64_t (*step)(const uint8_t *, size_t, const uint8_t *, size_t, river_state *);
     river_written (*forecast)(const uint8_t *, size_t, const river_state *, uint64_t *, size_t);
+    river_written (*trial)(const uint8_t *, size_t, const uint8_t *, size_t, const river_state *, uint64_t *, size_t);
 } Library;
 
-static const Library libraries[2] = {{river_check, river_start, river_step, river_forecast},
-                                     {plain_check, plain_start, plain_step, plain_forecast}};
+static const Library libraries[2] = {{river_check, river_start, river_step, river_forecast, river_trial},
+                                     {plain_check, plain_start, plain_step, plain_forecast, plain_trial}};
 
 enum { MOST_BYTES = 1 << 20, MOST_CALLS = 64, MOST_ROUNDS = 1000 };
 
@@ -79,6 +82,14 @@ static void same_forecast(const river_state *state, size_t lent)
     if (memcmp(&one, &other, sizeof one) || memcmp(numbers[0], numbers[1], sizeof numbers[0])) fail("the forecasts differ");
 }
 
+static void same_trial(const uint8_t *record, size_t size, const river_state *state, size_t lent)
+{
+    memset(numbers, 0x5A, sizeof numbers);
+    river_written one = river_trial(input, table_bytes, record, size, state, numbers[0], lent);
+    river_written other = plain_trial(input, table_bytes, record, size, state, numbers[1], lent);
+    if (memcmp(&one, &other, sizeof one) || memcmp(numbers[0], numbers[1], sizeof numbers[0])) fail("the trials differ");
+}
+
 /* Of every gauge and of one before and after them, with stages on each piece of bench/make_input.py's curves and off them. */
 static void same_rates(size_t size)
 {
@@ -101,11 +112,16 @@ static void compare_calls(void)
         if (states[k + 1].steps != k + 1) fail("a record is refused");
         same_forecast(&states[k], RIVER_MOST_NUMBERS);
         same_forecast(&states[k], k);
+        same_trial(records[k], record_bytes, &states[k], RIVER_MOST_NUMBERS);
+        same_trial(records[k], record_bytes, &states[k], 4 * states[k].elements);
+        same_trial(records[k], record_bytes, &states[k], 4 * states[k].elements - 1);
+        same_trial(records[k], record_bytes - 1, &states[k], RIVER_MOST_NUMBERS);
         same_step(records[k], record_bytes - 1, states[k]);
         river_state wrong = states[k];
         wrong.place[0].figures.variance = 4000000001;
         same_step(records[k], record_bytes, wrong);
         same_forecast(&wrong, RIVER_MOST_NUMBERS);
+        same_trial(records[k], record_bytes, &wrong, RIVER_MOST_NUMBERS);
     }
 }
 
@@ -136,6 +152,15 @@ static void forecast_all(const Library *library)
         refusals += library->forecast(input, table_bytes, &states[k + 1], numbers[0], RIVER_MOST_NUMBERS).refusal;
 }
 
+static void trial_all(const Library *library)
+{
+    for (size_t k = 0; k < calls; k++)
+        refusals += library->trial(input, table_bytes, records[k], record_bytes, &states[k], numbers[0], RIVER_MOST_NUMBERS).refusal;
+}
+
+/* The numbers of a trial written out, by themselves. */
+static __attribute__((noinline)) void write_out(void) { memcpy(numbers[0], numbers[1], 4 * sizeof **numbers * moved.elements); }
+
 /* A river's calls, of each entry as many. */
 static __attribute__((noinline)) void count_calls(const Library *library, size_t times)
 {
@@ -144,8 +169,10 @@ static __attribute__((noinline)) void count_calls(const Library *library, size_t
         refusals += library->start(input, table_bytes, &moved);
     }
     for (size_t k = 0; k < times; k++) {
+        refusals += library->trial(input, table_bytes, records[k], record_bytes, &moved, numbers[0], RIVER_MOST_NUMBERS).refusal;
         refusals += library->step(input, table_bytes, records[k], record_bytes, &moved);
         refusals += library->forecast(input, table_bytes, &moved, numbers[0], RIVER_MOST_NUMBERS).refusal;
+        write_out();
     }
 }
 
@@ -228,6 +255,7 @@ int main(int argc, char **argv)
         print_times("start", start_all, times);
         print_times("step", step_all, times);
         print_times("forecast", forecast_all, times);
+        print_times("trial", trial_all, times);
     }
     if (refusals) fail("a call is refused");
     return 0;
