@@ -5,7 +5,8 @@
  * A call: seven numbers of 8 bytes in the machine's order (entry, side, bytes of table, bytes of record, numbers lent, gauge, stage), then
  * the table's bytes, the record's bytes, the 450 numbers of the state and the lent numbers. A reply: refusal, count, whether all that the
  * host keeps stayed as it was, how many numbers follow, and these: the 450 of the state afterwards (start, step), all that were lent
- * (forecast), the plan's eight after its refusal (check), the library's version and the header's (version), or discharge and pieces (rate).
+ * (forecast, trial), the plan's eight after its refusal (check), the library's version and the header's (version), or discharge and pieces
+ * (rate).
  *
  * Table, record, state and lent numbers each end where a page without access begins (side 0) or begin where one ends (side 1), so that a
  * read or write past that end ends this program by a signal; so does a write into what a call is given to read alone.
@@ -17,7 +18,7 @@
 #include <sys/mman.h>
 #include "river.h"
 
-enum { START = 1, STEP = 2, FORECAST = 3, CHECK = 4, VERSION = 5, RATE = 6 };
+enum { START = 1, STEP = 2, FORECAST = 3, CHECK = 4, VERSION = 5, RATE = 6, TRIAL = 7 };
 enum { PAGE = 4096, ROOM = 128 * 1024, MARK = 0xA5, STATE_NUMBERS = 450 };
 _Static_assert(sizeof(river_state) == 8 * STATE_NUMBERS, "a state is 450 numbers");
 
@@ -86,9 +87,13 @@ static void state_call(uint64_t entry)
     reply(refusal, 0, inputs_stayed() && stayed_around(&state) && stayed(&numbers), STATE_NUMBERS, at);
 }
 
-static void forecast_call(void)
+static void writing_call(uint64_t entry)
 {
-    river_written got = river_forecast(table.at, table.size, (river_state *)state.at, (uint64_t *)numbers.at, numbers.size / 8);
+    const river_state *from = (const river_state *)state.at;
+    uint64_t *into = (uint64_t *)numbers.at;
+    size_t lent = numbers.size / 8;
+    river_written got = entry == FORECAST ? river_forecast(table.at, table.size, from, into, lent)
+                                          : river_trial(table.at, table.size, record.at, record.size, from, into, lent);
     reply(got.refusal, got.count, inputs_stayed() && stayed(&state) && stayed_around(&numbers), numbers.size / 8, numbers.at);
 }
 
@@ -118,14 +123,15 @@ int main(void)
     uint64_t head[7];
     make_room(&table), make_room(&record), make_room(&state), make_room(&numbers);
     while (fread(head, 8, 7, stdin) == 7) {
-        int side = head[1] == 1, moves = head[0] == START || head[0] == STEP, writes = PROT_READ | PROT_WRITE;
+        int side = head[1] == 1, moves = head[0] == START || head[0] == STEP, answers = head[0] == FORECAST || head[0] == TRIAL;
+        int writes = PROT_READ | PROT_WRITE;
         take(&table, head[2], side, PROT_READ);
         take(&record, head[3], side, PROT_READ);
         take(&state, sizeof(river_state), side, moves ? writes : PROT_READ);
-        take(&numbers, 8 * head[4], side, head[0] == FORECAST ? writes : PROT_READ);
+        take(&numbers, 8 * head[4], side, answers ? writes : PROT_READ);
         switch (head[0]) {
         case START: case STEP: state_call(head[0]); break;
-        case FORECAST: forecast_call(); break;
+        case FORECAST: case TRIAL: writing_call(head[0]); break;
         case CHECK: check_call(); break;
         case VERSION: version_call(); break;
         case RATE: rate_call(head[5], head[6]); break;

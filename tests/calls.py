@@ -7,8 +7,9 @@
 The library is target/staticlib/libriver.a unless another path is given; tests/calls.c is linked with it (gcc) and makes the calls. Compared
 are the refusal, all 450 numbers of the lent state, the count and all lent numbers, or what a rate answers, and whether the host's own
 memory stayed as it was.
-Runs from a start are judged by the run in fractions too. The last line is "calls: N calls in M cases, F failed"; the exit code is 0 only
-where none failed. A failed case can be made again by its seed and number.
+Some neighbouring calls are held against each other too, whatever the calculator says: a trial against the step that follows it, and two
+trials that differ in one gauge's reading. Runs from a start are judged by the run in fractions too. The last line is "calls: N calls in M
+cases, F failed"; the exit code is 0 only where none failed. A failed case can be made again by its seed and number.
 """
 import argparse
 import subprocess
@@ -24,7 +25,7 @@ from calculator.whole_numbers import RULES, Refused, decode_table
 from inputs import random_for
 
 ROOT = Path(__file__).resolve().parent.parent
-ENTRIES = {"start": 1, "step": 2, "forecast": 3, "check": 4, "version": 5, "rate": 6}
+ENTRIES = {"start": 1, "step": 2, "forecast": 3, "check": 4, "version": 5, "rate": 6, "trial": 7}
 VERSION = 3  # of the interface
 MOST_SHOWN = 20  # failed cases that are told of
 TIME_LIMIT = 60  # seconds for all calls
@@ -33,7 +34,7 @@ TIME_LIMIT = 60  # seconds for all calls
 @dataclass
 class Reply:
     refusal: int
-    count: int  # numbers written by a forecast
+    count: int  # numbers written by a forecast or a trial
     kept: int  # 1: all that the host keeps stayed as it was
     numbers: array  # the state's afterwards, all that were lent, the plan's, the versions of library and header, or discharge and pieces
 
@@ -59,7 +60,7 @@ class Library:
             return self.refused(call, refused.number)
 
     def refused(self, call, number):
-        if call.entry == "forecast":
+        if call.entry in ("forecast", "trial"):
             return Reply(number, 0, 1, array("Q", call.lent))
         if call.entry in ("check", "rate"):
             return Reply(number, 0, 1, array("Q", [0] * (8 if call.entry == "check" else 2)))
@@ -73,6 +74,10 @@ class Library:
 
     def forecast(self, call):
         count, numbers = self.rules.forecast(call.table, call.state, call.lent)
+        return Reply(0, count, 1, array("Q", numbers))
+
+    def trial(self, call):
+        count, numbers = self.rules.trial(call.table, call.record, call.state, call.lent)
         return Reply(0, count, 1, array("Q", numbers))
 
     def check(self, call):
@@ -155,8 +160,8 @@ def complaint(expected, reply):
 
 def handed_out(call, reply, run):
     """(figure, margin, exact) of all that an accepted call of a run hands out."""
-    if call.entry == "forecast":
-        by_lead = run.forecast()
+    if call.entry in ("forecast", "trial"):
+        by_lead = run.forecast() if call.entry == "forecast" else [run.trial(call.record)]
         rows = [(reply.numbers[at:at + 4], *divmod(at // 4, len(by_lead))) for at in range(0, reply.count, 4)]
     else:
         by_lead = [run.figures]
@@ -183,14 +188,68 @@ def exact_complaint(calls, replies):
     return None, compared
 
 
+def reached(table, gauge):
+    """The places (from 0) that the water of a gauge (from 0) reaches: its element's, and on along the downs up to a dam, not into it."""
+    kinds, downs = table[10:10 + 26 * table[8]:26], table[11:10 + 26 * table[8]:26]
+    number, places = table[10 + 26 * table[8] + 46 * gauge], set()
+    while number and kinds[number - 1] != 3:
+        places.add(number - 1)
+        number = downs[number - 1]
+    return places
+
+
+def changed_gauge(table, one, other):
+    """The gauge (from 0) in whose stage alone two records differ; None where they differ in more, or in nothing."""
+    stages = len(one) - 2 * table[9]
+    changed = [gauge for gauge in range(table[9]) if one[stages + 2 * gauge:][:2] != other[stages + 2 * gauge:][:2]]
+    return changed[0] if len(one) == len(other) and one[:stages] == other[:stages] and len(changed) == 1 else None
+
+
+def step_complaint(trial, step):
+    """M-102: what a trial answers, without 15, is what the step on the same state answers."""
+    if trial.refusal == 15:
+        return None
+    if trial.refusal != step.refusal:
+        return f"the trial answers {trial.refusal}, the step {step.refusal}"
+    places = [] if trial.refusal else range(trial.count // 4)
+    return next((f"the trial and the step differ at element {place + 1}" for place in places
+                 if trial.numbers[4 * place:4 * place + 4] != step.numbers[2 + 7 * place:6 + 7 * place]), None)
+
+
+def independence_complaint(table, gauge, one, other):
+    """M-102: two accepted trials that differ in this gauge's reading agree where its water does not come."""
+    apart = set(range(table[8])) - reached(table, gauge)
+    return next((f"the reading of gauge {gauge + 1} changes element {place + 1}, which its water does not reach" for place in sorted(apart)
+                 if one.numbers[4 * place:4 * place + 4] != other.numbers[4 * place:4 * place + 4]), None)
+
+
+def neighbour_complaints(calls, replies):
+    """What neighbouring calls on one table and state say against each other, by place of the second; None where nothing."""
+    for place in range(1, len(calls)):
+        (one, other), (reply, next_reply) = calls[place - 1:place + 1], replies[place - 1:place + 1]
+        if one.entry != "trial" or one.table != other.table or one.state is not other.state:
+            continue
+        if other.entry == "step" and one.record == other.record:
+            yield place, step_complaint(reply, next_reply)
+        elif other.entry == "trial" and not (reply.refusal or next_reply.refusal):
+            gauge = changed_gauge(one.table, one.record, other.record)
+            if gauge is not None:
+                yield place, independence_complaint(one.table, gauge, reply, next_reply)
+
+
 def compare(case, calls, expected, replies):
-    """All complaints about a case, and how many figures were compared with fractions."""
+    """All complaints about a case, how many pairs of neighbouring calls were held against each other, and how many figures were compared
+    with fractions."""
     found = [f"call {place} ({call.name}): {words}" for place, (call, right, reply) in enumerate(zip(calls, expected, replies))
              if (words := complaint(right, reply))]
-    if not case.exact or None in replies:
-        return found, 0
+    if None in replies:
+        return found, 0, 0
+    neighbours = list(neighbour_complaints(calls, replies))
+    found += [f"call {place} ({calls[place].name}): {words}" for place, words in neighbours if words]
+    if not case.exact:
+        return found, len(neighbours), 0
     words, compared = exact_complaint(calls, replies)
-    return found + ([words] if words else []), compared
+    return found + ([words] if words else []), len(neighbours), compared
 
 
 def show(call, expected, reply):
@@ -200,21 +259,21 @@ def show(call, expected, reply):
 
 
 def try_cases(driver, chosen, seed, shown):
-    """Makes the calls of the chosen cases; gives counts of calls, failed cases and figures compared, and of calls by refusal."""
+    """Makes the calls of the chosen cases; gives counts of calls, failed cases, pairs and figures compared, and of calls by refusal."""
     calls = [list(case.build(random_for(seed, number))) for number, case in chosen]
     replies, right = iter(made_calls(driver, sum(calls, []))), Library()
-    failed, figures, refusals = 0, 0, {}
+    failed, pairs, figures, refusals = 0, 0, 0, {}
     for (number, case), its_calls in zip(chosen, calls):
         expected, its_replies = [right.reply(call) for call in its_calls], [next(replies) for _ in its_calls]
         for call, promised, reply in zip(its_calls, expected, its_replies):
             refusals[promised.refusal] = refusals.get(promised.refusal, 0) + 1
             if shown:
                 show(call, promised, reply)
-        found, compared = compare(case, its_calls, expected, its_replies)
-        figures, failed = figures + compared, failed + bool(found)
+        found, neighbours, compared = compare(case, its_calls, expected, its_replies)
+        pairs, figures, failed = pairs + neighbours, figures + compared, failed + bool(found)
         if found and failed <= MOST_SHOWN:
             print(f"FAILED --seed {seed} --only {number} ({case.name})\n  " + "\n  ".join(found[:5]))
-    return sum(map(len, calls)), failed, figures, refusals
+    return sum(map(len, calls)), failed, pairs, figures, refusals
 
 
 def main():
@@ -229,9 +288,9 @@ def main():
     chosen = list(enumerate(cases()))
     if options.only is not None:
         chosen = [chosen[options.only]]
-    count, failed, figures, refusals = try_cases(built_driver(options.library), chosen, options.seed, options.only is not None)
+    count, failed, pairs, figures, refusals = try_cases(built_driver(options.library), chosen, options.seed, options.only is not None)
     print("calls by refusal: " + ", ".join(f"{number}: {times}" for number, times in sorted(refusals.items())))
-    print(f"figures compared with the run in fractions: {figures}")
+    print(f"figures compared with the run in fractions: {figures}; neighbouring calls held against each other: {pairs} pairs")
     print(f"{time.perf_counter() - started:.1f} s", file=sys.stderr)
     print(f"calls: {count} calls in {len(chosen)} cases, {failed} failed")
     return 1 if failed else 0
