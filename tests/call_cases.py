@@ -885,19 +885,19 @@ def ceiling_cases():
 # ---- Trials of a step --------------------------------------------------------------------------------------------------------------------
 
 
-def trial(name, random, table, record, state, room=None):
-    """A trial in so much space; if nothing is said, in what it needs or some more."""
+def trial(name, random, table, record, state, room=None, more=(0, 0, 1, 5)):
+    """A trial in so much space; if nothing is said, in what it needs and one of these more."""
     need = 4 * table[8] if len(table) > 8 else 4
-    lent = lent_numbers(random, need + random.choice((0, 0, 1, 5)) if room is None else room)
+    lent = lent_numbers(random, need + random.choice(more) if room is None else room)
     return Call(name, "trial", table, state, record, lent, random.randrange(2))
 
 
-def trials_of(*builds):
+def trials_of(*builds, more=(0, 0, 1, 5)):
     """The steps of these cases, each tried and then made; their starts as they are."""
     def build_trials(random):
         for call in (call for build in builds for call in build(random)):
             if call.entry == "step":
-                yield trial(f"{call.name}, tried", random, call.table, call.record, call.state)
+                yield trial(f"{call.name}, tried", random, call.table, call.record, call.state, more=more)
             if call.entry in ("start", "step"):
                 yield call
     return build_trials
@@ -990,12 +990,13 @@ def trial_run(random, table, records):
 
 def trial_runs(count=None):
     def build(random):
-        table = some_table(random, count or random.choice((1, 2, 3, 4)), random.choice(SHAPES), random.choice(("typical", "typical", "ceiling")))
+        way = random.choice(("typical", "typical", "ceiling"))
+        table = some_table(random, count or random.choice((1, 2, 3, 4)), random.choice(SHAPES), way)
         return trial_run(random, table, some_records(random, table, 3, "typical"))
     return build
 
 
-# ---- Trials that differ in one gauge's reading ---------------------------------------------------------------------------------------------
+# ---- Trials that differ in one gauge's reading -------------------------------------------------------------------------------------------
 
 
 def reading_trials(random, table, state, fields, number, stages):
@@ -1039,8 +1040,9 @@ def independence_rivers():
     joined = [basin(down=3, **water()), basin(down=3, lag=90, **water()), reach(down=5, **water()), basin(down=5, area=50, **water()),
               reach(down=7, lag=120, **water()), reach(**water()), reach(lag=300, **water()), basin(**water())]
     yield "gauges on all but one", joined, (1, 2, 3, 5, 6, 7, 8), ()
-    dammed = [basin(down=2, **water()), reach(down=4, **water()), basin(down=4, **water()), dam(down=6, **water()), basin(down=6, **water()),
-              reach(down=7, **water()), dam(down=8, **water()), dam(down=9, **water()), reach(**water()), basin(down=11, **water()), dam(**water())]
+    dammed = [basin(down=2, **water()), reach(down=4, **water()), basin(down=4, **water()), dam(down=6, **water()),
+              basin(down=6, **water()), reach(down=7, **water()), dam(down=8, **water()), dam(down=9, **water()), reach(**water()),
+              basin(down=11, **water()), dam(**water())]
     yield "dams", dammed, (1, 2, 3, 5, 6, 9, 10), (10 ** 6, 2 * 10 ** 6, 3 * 10 ** 6, 4 * 10 ** 6)
     yield "one element", [basin(**water())], (1,), ()
     chain = [basin(down=2, area=50, **water())] + [reach(down=(k + 1) * (k < 64), **water()) for k in range(2, 65)]
@@ -1053,19 +1055,21 @@ def independence_rivers():
 def random_independence(random):
     """A random river and state, drawn again until a gauge changes something."""
     while True:
-        table = some_table(random, random.choice((2, 3, 5, 8, 12, 64)), random.choice(SHAPES), random.choice(("typical", "typical", "zero")),
-                           gauge_count=random.choice((1, 2, 5, 16)))
+        count, way = random.choice((2, 3, 5, 8, 12, 64)), random.choice(("typical", "typical", "zero"))
+        table = some_table(random, count, random.choice(SHAPES), way, gauge_count=random.choice((1, 2, 5, 16)))
         data, fields = table_bytes(table), some_records(random, table, 1, "typical")[0]
         state = replace(fitting_state(random, data, random.choice(("typical", "small"))), steps=random.choice((0, 3, 9_999)))
         found = []
         for number, each in enumerate(table["gauges"]):
-            found += reading_trials(random, data, state, fields, number, [some_stage(random, each["pieces"]) for _ in range(2)] + [GAP]) or []
+            stages = [some_stage(random, each["pieces"]) for _ in range(2)] + [GAP]
+            found += reading_trials(random, data, state, fields, number, stages) or []
         if found:
             return found
 
 
 def trial_cases():
-    edits = [(rule, edited_calls(edit)) for rule, edit in rule_edits()] + [(rule, edited_calls(edit, dam_river)) for rule, edit in dam_edits()]
+    edits = [(rule, edited_calls(edit)) for rule, edit in rule_edits()]
+    edits += [(rule, edited_calls(edit, dam_river)) for rule, edit in dam_edits()]
     for rule in sorted({rule for rule, _ in edits}):
         yield f"rule {rule}", trials_of(*(build for about, build in edits if about == rule))
     yield "order of 15", trial_orders
@@ -1082,7 +1086,7 @@ def trial_cases():
     yield "cut and spoiled", cut_trials
     for name, build, count in (("several refusals", several_refusals, 6), ("random", random_calls(), 150),
                                ("random, 64 elements", random_calls(64), 8), ("noise", noise_calls, 15)):
-        yield from ((name, trials_of(build)) for _ in range(count))
+        yield from ((name, trials_of(build, more=(-1, 0, 0, 3))) for _ in range(count))
     yield from ((f"independence, {name}", independence(*river)) for name, *river in independence_rivers())
     yield from (("independence, random", random_independence) for _ in range(30))
 

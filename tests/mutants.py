@@ -7,10 +7,11 @@ For each mutant the checks of judge.py that caught it are printed with the count
 "mutants: N tried, F not caught". Each is tried on some dozens of generated.py's quick inputs; on the slow ones (10,000 steps, 100,000
 records) only where these do not catch it, and on the other small ones last.
 
-Wrong libraries in the place of the C interface follow, which the comparison of calls.py must catch; with --libraries these alone. The last
-of them are in C: bench/plain_calls.c, which must pass as it stands, with one place changed; these wrong ones touch memory that is not
-theirs (needs gcc). Before them come wrong papers, which paper.py must catch: docs/METHOD.md with one figure of its worked examples changed,
-each figure in turn, and the page as it stands where the method is another; with --papers these alone.
+Wrong libraries in the place of the C interface follow, which the comparison of calls.py must catch; with --libraries these alone. Some are
+then tried once more by what neighbouring calls say against each other, without the calculator. The last of them are in C:
+bench/plain_calls.c, which must pass as it stands, with one place changed; these wrong ones touch memory that is not theirs (needs gcc).
+Before them come wrong papers, which paper.py must catch: docs/METHOD.md with one figure of its worked examples changed, each figure in turn,
+and the page as it stands where the method is another; with --papers these alone.
 """
 import subprocess
 import sys
@@ -893,6 +894,216 @@ class SevenForNoGauge(Rules):
         return right
 
 
+class WrongTrial(Library):
+    """A library that is right but for its trials; only the cases of trials are asked about it."""
+
+
+class TrialsBy(WrongTrial):
+    """Trials by wrong rules."""
+
+    def __init__(self, wrong):
+        super().__init__()
+        self.wrong = wrong
+
+    def trial(self, call):
+        return Library(self.wrong).trial(call)
+
+
+class TrialMovesState(WrongTrial):
+    """A trial that works in the host's state."""
+
+    def trial(self, call):
+        return replace(super().trial(call), kept=0)
+
+
+class TrialWritesOneMore(WrongTrial):
+    def trial(self, call):
+        reply = super().trial(call)
+        if reply.count < len(reply.numbers):
+            reply.numbers[reply.count] = 0
+        return reply
+
+
+class TrialClearsRest(WrongTrial):
+    def trial(self, call):
+        reply = super().trial(call)
+        return replace(reply, numbers=reply.numbers[:reply.count] + array("Q", [0] * (len(call.lent) - reply.count)))
+
+
+class TrialWritesThoughRefused(WrongTrial):
+    """Element 1 is written before rule 16 is known of the others."""
+
+    def refused(self, call, number):
+        reply = super().refused(call, number)
+        if call.entry == "trial" and number == 16:
+            reply.numbers[:4] = array("Q", call.state.figures[0].numbers())
+        return reply
+
+
+class TrialCountOfRoom(WrongTrial):
+    def trial(self, call):
+        return replace(super().trial(call), count=len(call.lent))
+
+
+class TrialCountThoughRefused(WrongTrial):
+    """The count that would have been written."""
+
+    def refused(self, call, number):
+        return replace(super().refused(call, number), count=4 * call.table[8] if call.entry == "trial" and number in (15, 16) else 0)
+
+
+class TrialRoomOneShort(WrongTrial):
+    def trial(self, call):
+        reply = super().trial(replace(call, lent=(*call.lent, 0)))
+        return replace(reply, numbers=reply.numbers[:-1])
+
+
+class TrialRoomOneMore(WrongTrial):
+    def trial(self, call):
+        reply = super().trial(call)
+        if reply.count == len(call.lent):
+            raise Refused(15)
+        return reply
+
+
+class TrialRoomOfForecast(WrongTrial):
+    """15 where a forecast would have it."""
+
+    def trial(self, call):
+        reply = super().trial(call)
+        if len(call.lent) < reply.count * (call.table[7] + 1):
+            raise Refused(15)
+        return reply
+
+
+class TrialLaidOutByLeads(WrongTrial):
+    """The figures of an element stand where a forecast has its lead 0."""
+
+    def trial(self, call):
+        reply, numbers = super().trial(call), array("Q", call.lent)
+        for place in range(call.table[8]):
+            at = 4 * place * (call.table[7] + 1)
+            if at + 4 <= len(numbers):
+                numbers[at:at + 4] = reply.numbers[4 * place:4 * place + 4]
+        return replace(reply, numbers=numbers)
+
+
+class FifteenAfterSixteen(Rules):
+    def trial(self, table_bytes, record, state, lent):
+        super().trial(table_bytes, record, state, [0] * 256)
+        return super().trial(table_bytes, record, state, lent)
+
+
+class FifteenBeforeFourteen(Rules):
+    """15 in the place of what stands from a number on."""
+    passed = (14,)
+
+    def trial(self, table_bytes, record, state, lent):
+        try:
+            return super().trial(table_bytes, record, state, lent)
+        except Refused as refused:
+            if refused.number in self.passed and len(table_bytes) > 8 and len(lent) < 4 * table_bytes[8]:
+                raise Refused(15)
+            raise
+
+
+class FifteenBeforeSeventeen(FifteenBeforeFourteen):
+    passed = (17, 13, 14)
+
+
+class FifteenBeforeTen(FifteenBeforeFourteen):
+    passed = (10, 11, 12, 17, 13, 14)
+
+
+class FifteenBeforeNine(FifteenBeforeFourteen):
+    passed = (9, *FifteenBeforeTen.passed)
+
+
+class FifteenBeforeEight(FifteenBeforeFourteen):
+    passed = (8, *FifteenBeforeNine.passed)
+
+
+class FifteenBeforeTable(FifteenBeforeFourteen):
+    passed = (*range(1, 8), *FifteenBeforeEight.passed)
+
+
+class NineNotGiven(Rules):
+    def trial(self, table_bytes, record, state, lent):
+        return super().trial(table_bytes, record, replace(state, steps=9_999) if state.steps == 10_000 else state, lent)
+
+
+class FiguresBeforeStep(Rules):
+    """The figures of the state that was given."""
+
+    def stepped(self, table, rain_of, release_of, readings, state):
+        super().stepped(table, rain_of, release_of, readings, state)
+        return state.figures[:len(table.elements)]
+
+
+class FiguresOfLeadOne(Rules):
+    """Lead 1 of a forecast, with the mean rain and no reading."""
+
+    def trial(self, table_bytes, record, state, lent):
+        written, _ = super().trial(table_bytes, record, state, lent)
+        table = decode_table(table_bytes)
+        rows = answer_rows(self.forecast(table_bytes, state, [0] * 4 * 64 * 13)[1], written * (table.leads + 1))
+        return written, [number for row in rows[1::table.leads + 1] for number in row] + list(lent[written:])
+
+
+class FiguresBeforeCorrection(Rules):
+    """A gauged element is handed out as it was before its correction; what flows on is corrected."""
+    corrected = None
+
+    def correct(self, figures, z, noise):
+        self.corrected = super().correct(figures, z, noise)
+        return figures
+
+    def below_inflow(self, figures, uncorrected):
+        given, self.corrected = self.corrected or figures, None
+        return given
+
+
+class FiguresOnePlaceEarly(Rules):
+    """The figures of an element stand in the place before its own, those of element 1 in the last."""
+
+    def stepped(self, table, rain_of, release_of, readings, state):
+        new = super().stepped(table, rain_of, release_of, readings, state)
+        return new[1:] + new[:1]
+
+
+class ReadingOnElementBefore(Rules):
+    """A reading corrects the element before the gauge's."""
+    away = -1
+
+    def stepped(self, table, rain_of, release_of, readings, state):
+        moved = {}
+        for number, reading in readings.items():
+            other = number + self.away
+            fits = 1 <= other <= len(table.elements) and table.elements[other - 1].kind != DAM
+            moved[other if fits else number] = reading
+        return super().stepped(table, rain_of, release_of, moved, state)
+
+
+class ReadingOnElementAfter(ReadingOnElementBefore):
+    away = 1
+
+
+class ReadingOnElementsAbove(Rules):
+    """A reading also corrects what drains into the gauge's element."""
+
+    def stepped(self, table, rain_of, release_of, readings, state):
+        above = {number: readings[element.down] for number, element in enumerate(table.elements, 1)
+                 if element.down in readings and element.kind != DAM}
+        return super().stepped(table, rain_of, release_of, above | readings, state)
+
+
+class DamPassesVarianceOn(Rules):
+    """What drains into a dam adds to its variance."""
+
+    def dam(self, element, release, old, drained):
+        return Figures(release, 0, min(CEILING, element.system_noise + drained.variance), 0)
+
+
 class LooksBeyond(Rules):
     """Rule 8 on one place more than N."""
 
@@ -990,17 +1201,31 @@ ONLY_LIBRARIES = (LooksBeyond, LooksAtReachRains, LooksAtDamRains, LooksNotAtDam
                   StageOfLowHalf, SevenForNoGauge)
 # Wrong programs that are wrong libraries too: a rate shows more of them than standard input.
 WRONG_LOOKS = (NextPieceAtTop, LastPieceFirst, GoesOnAfterFourteen, EveryPieceTested)
-NO_PROGRAMS = (Rules, Program, WrongAnswer, WrongLook, Watched, LooksNotAt, CeilingOf, *ONLY_LIBRARIES)
+# Rules by which trials alone are worked out: what only they can have wrong, and wrong steps.
+WRONG_TRIALS = (FifteenAfterSixteen, FifteenBeforeFourteen, FifteenBeforeSeventeen, FifteenBeforeTen, FifteenBeforeNine, FifteenBeforeEight,
+                FifteenBeforeTable, NineNotGiven, FiguresBeforeStep, FiguresOfLeadOne, FiguresBeforeCorrection, FiguresOnePlaceEarly,
+                ReadingOnElementBefore, ReadingOnElementAfter, ReadingOnElementsAbove, DamPassesVarianceOn)
+WRONG_STEPS = (ReadingsIgnored, ReadingsIgnoredByZeroGain, ReadingTakenWhole, CorrectionVarianceKept, GainMarginTwo, GapAsStage65535,
+               GapAsStageZero, UncorrectedInflow, VarianceWeightNotSquared, SystemNoiseLeftOut, NextPieceAtTop, LastReadingForAll,
+               DamLetsInflowThrough, OldRelease, LastReleaseForAll, DamInflowJudged, TwelveForThirteen, SeventeenAfterThirteen,
+               SeventeenBeforeTwelve, NegativeDepthSquared, OnlyValuesUnderCeiling, CeilingTakesOneMore, NineThousandSteps,
+               ElevenThousandSteps, LooksBeyond, LooksAtReachRains, LooksAtDamRains, LooksNotAtLastPlace, LowHalves)
+# Of these, readings that change what their gauge's water does not reach.
+LEAKS = (ReadingOnElementBefore, ReadingOnElementAfter, ReadingOnElementsAbove, DamPassesVarianceOn, LastReadingForAll, DamLetsInflowThrough)
+NO_PROGRAMS = (Rules, Program, WrongAnswer, WrongLook, Watched, LooksNotAt, CeilingOf, *ONLY_LIBRARIES, *WRONG_TRIALS)
+NO_LIBRARIES = (Library, WrongTrial, TrialsBy)
 
 
 def libraries():
     for wrong in list(globals().values()):
-        if isinstance(wrong, type) and issubclass(wrong, Library) and wrong is not Library:
+        if isinstance(wrong, type) and issubclass(wrong, Library) and wrong not in NO_LIBRARIES:
             yield wrong.__name__, wrong()
     for wrong in ONLY_LIBRARIES:
         yield wrong.__name__, Library(wrong())
     for wrong in WRONG_LOOKS:
         yield f"{wrong.__name__} in calls", Library(wrong())
+    for wrong in (*WRONG_TRIALS, *WRONG_STEPS):
+        yield f"{wrong.__name__} in trials", TrialsBy(wrong())
     for number in range(7):
         wrong = LooksNotAt()
         wrong.number = number
@@ -1013,6 +1238,13 @@ def libraries():
 # What stands once in bench/plain_calls.c or bench/river_in_c.h, and what a wrong library has in its place.
 STEPPED, FORECAST = "    set_next_values(&t, record + 3, space, state);\n", "    memcpy(numbers, space + t.leads + 1, sizeof *numbers * count);\n"
 WRITTEN = "    refusal = forecast_elements(&t, weights, NULL, state, space);\n"
+SPACE = "    Figures space[MOST_PLACES + 1];\n"
+JUDGED = "    u32 refusal = judge_step(&t, table, table_bytes, record, record_bytes, state, readings);\n"
+TRIAL_NEED, TRIAL_ROOM = "    size_t count = 4 * t.count;\n", "    if (numbers_lent < count) return (river_written){15, 0};\n"
+TRIAL_JUDGED, TRIAL_REFUSED = "    if (refusal) return (river_written){refusal, 0};\n" + TRIAL_NEED, "(river_written){16, 0};\n"
+TRIAL_WORKED = "    if (step_elements(&t, weights, record + 3, readings, state, space)) return " + TRIAL_REFUSED
+TRIED = "    memcpy(numbers, space + 1, sizeof *numbers * count);\n"
+TOO_SHORT = "numbers_lent < 4 * t.count"
 WRONG_IN_C = {
     "a step writes after the state": (STEPPED, STEPPED + "    state[1].elements = 0;\n"),
     "a step writes before the state": (STEPPED, STEPPED + "    ((u64 *)state)[-1] = 0;\n"),
@@ -1036,7 +1268,8 @@ WRONG_IN_C = {
     "rule 1 reads ten bytes of any table": ("if (size < HEADER || be4(table) != size - 4) return 1;",
                                             "if (table[9] > 255 || be4(table) != size - 4 || size < HEADER) return 1;"),
     "rule 10 reads two bytes of any record": ("if (size < 3 || be2(record) != size - 2 ||", "if (be2(record) != size - 2 || size < 3 ||"),
-    "a step's space is kept from call to call": ("    Figures space[MOST_PLACES + 1];\n", "    static Figures space[MOST_PLACES + 1];\n",
+    "a step's space is kept from call to call": (SPACE + JUDGED + "    if (refusal) return refusal;\n",
+                                                 "    static" + SPACE + JUDGED + "    if (refusal) return refusal;\n",
                                                  "    memset(space, 0, sizeof *space * (t->count + 1)); /*", "    /*"),
     "a gauge on a dam is taken": ("    if (t->elements[ELEMENT_BYTES * (g[ELEMENT] - 1u) + KIND] == DAM) return 0;\n", ""),
     "a release above C is taken": ("        if (be4(release + 4 * k) > CEILING) return 17;\n", "        ;\n"),
@@ -1064,6 +1297,56 @@ WRONG_IN_C = {
     "a rate writes into its table what stands there": ("    if (!refusal && stage > HIGHEST_STAGE",
                                                        "    if (!refusal) *(volatile u8 *)table = table[0];\n"
                                                        "    if (!refusal && stage > HIGHEST_STAGE"),
+    "a trial moves the state": (TRIED, TRIED + "    set_next_values(&t, record + 3, space, (river_state *)state);\n"),
+    "a trial counts as a step": (TRIED, TRIED + "    ((river_state *)state)->steps++;\n"),
+    "a trial moves a rain of the state": (TRIED, TRIED + "    ((river_state *)state)->place[0].rain[1] = state->place[0].rain[0];\n"),
+    "a trial writes into the state what stands there": (TRIED, TRIED + "    *(volatile u64 *)state = t.count;\n"),
+    "a trial refused by 16 has moved the state": (TRIAL_WORKED, TRIAL_WORKED.replace(
+        "return", "{\n        set_next_values(&t, record + 3, space, (river_state *)state);\n        return") + "    }\n"),
+    "a trial writes into its record what stands there": (TRIED, TRIED + "    *(volatile u8 *)record = record[0];\n"),
+    "a trial writes into its table what stands there": (TRIED, TRIED + "    *(volatile u8 *)table = table[0];\n"),
+    "a trial judges 15 after 16": (TRIAL_NEED + TRIAL_ROOM, TRIAL_NEED, TRIAL_WORKED, TRIAL_WORKED + TRIAL_ROOM),
+    "a trial judges 15 before 14": (TRIAL_JUDGED, f"    if (refusal == 14 && {TOO_SHORT}) refusal = 15;\n" + TRIAL_JUDGED),
+    "a trial judges 15 before 9": (TRIAL_JUDGED, f"    if (refusal >= 9 && {TOO_SHORT}) refusal = 15;\n" + TRIAL_JUDGED),
+    "a trial judges 15 before 8": (TRIAL_JUDGED, f"    if (refusal >= 8 && {TOO_SHORT}) refusal = 15;\n" + TRIAL_JUDGED),
+    "a trial judges 15 before its table": (TRIAL_JUDGED, "    if (table_bytes > 8 && numbers_lent < 4u * table[8]) refusal = 15;\n"
+                                           + TRIAL_JUDGED),
+    "a trial does not judge 15": (TRIAL_NEED + TRIAL_ROOM, TRIAL_NEED),
+    "a trial does not judge 9": (TRIAL_JUDGED, "    if (refusal == 9) refusal = judge_record(&t, record, record_bytes, readings);\n"
+                                 + TRIAL_JUDGED),
+    "a trial asks for the space of a forecast": (TRIAL_NEED + TRIAL_ROOM,
+                                                 TRIAL_NEED + TRIAL_ROOM.replace("count", "count * (t.leads + 1)")),
+    "a trial asks for one number more": (TRIAL_NEED + TRIAL_ROOM, TRIAL_NEED + TRIAL_ROOM.replace("<", "<=")),
+    "a trial takes one number less": (TRIAL_NEED + TRIAL_ROOM, TRIAL_NEED + TRIAL_ROOM.replace("numbers_lent", "numbers_lent + 1")),
+    "a trial writes after its answer": (TRIED, TRIED + "    if (count < numbers_lent) numbers[count] = 0;\n"),
+    "a trial clears all that is lent": (TRIED, "    memset(numbers, 0, sizeof *numbers * numbers_lent);\n" + TRIED),
+    "a trial writes after what is lent": (TRIED, TRIED + "    numbers[numbers_lent] = 0;\n"),
+    "a trial writes before what is lent": (TRIED, TRIED + "    numbers[-1] = 0;\n"),
+    "a trial refused by 16 has written": (TRIAL_WORKED, TRIAL_WORKED.replace("return", "{\n    " + TRIED + "        return") + "    }\n"),
+    "a trial refused by 15 has written": (TRIAL_NEED + TRIAL_ROOM, TRIAL_NEED + TRIAL_ROOM.replace(
+        "return", "return memset(numbers, 0, sizeof *numbers * numbers_lent),")),
+    "a trial hands out the state before it": (TRIED, "    for (size_t i = 0; i < t.count; i++) space[i + 1] = state->place[i].figures;\n"
+                                              + TRIED),
+    "a trial hands out lead 1 of a forecast": (
+        TRIED, "    Figures ahead[(MOST_PLACES + 1) * (MOST_LEADS + 1)];\n"
+        "    if (forecast_elements(&t, weights, NULL, state, ahead)) return (river_written){16, 0};\n"
+        "    for (size_t i = 1; i <= t.count; i++) space[i] = ahead[(t.leads + 1) * i + 1];\n" + TRIED),
+    "a trial hands out its figures one place late": (TRIED, TRIED.replace("space + 1", "space")),
+    "a trial is laid out for all leads": (
+        TRIED, "    for (size_t i = 0, at; i < t.count; i++)\n        if ((at = 4 * i * (t.leads + 1)) + 4 <= numbers_lent) "
+        "memcpy(numbers + at, space + i + 1, sizeof *space);\n"),
+    "a trial counts all that is lent": (TRIED, TRIED + "    count = numbers_lent;\n"),
+    "a trial refused by 15 tells its count": (TRIAL_NEED + TRIAL_ROOM, TRIAL_NEED + TRIAL_ROOM.replace("{15, 0}", "{15, count}")),
+    "a trial refused by 16 tells its count": (TRIAL_WORKED, TRIAL_WORKED.replace("{16, 0}", "{16, count}")),
+    "a trial corrects after the whole network": (
+        TRIAL_WORKED, TRIAL_WORKED.replace("readings", "&(Reading){0}") + "    for (Reading *each = readings; each->element; each++)\n"
+        "        if (correct(&space[each->element], each)) return " + TRIAL_REFUSED),
+    "a trial corrects the element before": (
+        TRIAL_WORKED, "    for (Reading *each = readings; each->element; each++) each->element -= each->element > 1;\n" + TRIAL_WORKED),
+    "a trial lets water into a dam": (
+        TRIED, "    const u8 *e = t.elements;\n    for (size_t i = 1; i <= t.count; i++, e += ELEMENT_BYTES)\n        if (e[DOWN] && "
+        "t.elements[ELEMENT_BYTES * (e[DOWN] - 1) + KIND] == DAM) drain(&space[e[DOWN]], &space[i]);\n" + TRIED),
+    "a trial corrects by no reading": (TRIAL_WORKED, TRIAL_WORKED.replace("readings", "&(Reading){0}")),
     "an old library": ("return RIVER_VERSION;", "return RIVER_VERSION - 1;"),
 }
 
@@ -1088,21 +1371,27 @@ def caught_libraries():
     right, built = Library(), []
     for number, case in enumerate(cases()):
         calls = list(case.build(random_for(SEED, number)))
-        built.append((replace(case, exact=False), calls, [right.reply(call) for call in calls]))
+        built.append((number + 1, replace(case, exact=False), calls, [right.reply(call) for call in calls]))
+    trials = [each for each in built if each[1].name.startswith("trial: ")]
 
-    def first_caught(reply_to):
-        for place, (case, calls, expected) in enumerate(built, 1):
-            if compare(case, calls, expected, [reply_to(call) for call in calls])[0]:
+    def first_caught(reply_to, among, alone=False):
+        """`alone`: by neighbouring calls alone, as if the calculator had the same mistake."""
+        for place, case, calls, expected in among:
+            replies = [reply_to(call) for call in calls]
+            if compare(case, calls, replies if alone else expected, replies)[0]:
                 return case.name, place
         return "NOT CAUGHT", len(built)
 
     def first_caught_in_c(name, changes):
-        driver = built_driver(library_in_c(name, changes))
-        replies = iter(made_calls(driver, [call for _, calls, _ in built for call in calls], starts=1))
-        return first_caught(lambda _: next(replies))
+        driver, among = built_driver(library_in_c(name, changes)), trials if name.startswith("a trial ") else built
+        replies = iter(made_calls(driver, [call for _, _, calls, _ in among for call in calls], starts=1))
+        return first_caught(lambda _: next(replies), among)
 
     for name, wrong in libraries():
-        yield name, *first_caught(wrong.reply)
+        yield name, *first_caught(wrong.reply, trials if isinstance(wrong, WrongTrial) else built)
+    yield "ReadingsIgnored in trials, by the step alone", *first_caught(TrialsBy(ReadingsIgnored()).reply, trials, alone=True)
+    for wrong in LEAKS:
+        yield f"{wrong.__name__}, by two trials alone", *first_caught(Library(wrong()).reply, trials, alone=True)
     if first_caught_in_c("as it stands", ())[0] != "NOT CAUGHT":
         sys.exit("bench/plain_calls.c as it stands is caught; see tests/calls.py")
     for name, changes in WRONG_IN_C.items():
