@@ -369,6 +369,25 @@ def later_rains():
     return f"c = 2 {found[0]} {found[1]} c = 3 {found[2]} {found[3]}"
 
 
+def a_trial():
+    """The second record with its gap, with a plausible stage and with a doubtful one, tried after the first step."""
+    state, _ = THREE_ELEMENTS.after_steps(RULES, 1)
+    table = decode_table(TABLE)
+    (rain_1, rain_2), _, (stage,) = record_fields(table, RECORDS[1])
+    assert stage == GAP
+    stages = 1_750, 2_600
+    records = [record_bytes((rain_1, rain_2), (each,)) for each in (GAP, *stages)]
+    gap, plausible, doubtful = (RULES.trial(TABLE, record, state, LENT)[1] for record in records)
+    rated = [RULES.look(table.gauges[0], each).discharge for each in stages]
+    assert gap[:8] == plausible[:8] == doubtful[:8]
+    rows = [f"element {place // 4 + 1}" * (place % 4 == 0) + f" {n(gap[place])} | {n(plausible[place])} | {n(doubtful[place])}"
+            for place in range(12)]
+    moved = [n(abs(answer[8] - gap[8])) for answer in (plausible, doubtful)]
+    return f"""2 {rain_1} {rain_2} {n(stages[0])} {n(rated[0])} {n(stages[1])} {n(rated[1])}
+    {n(stages[0])} {n(stages[1])} {" ".join(rows)}
+    1 2 element 3 {n(stages[0])} {moved[0]} {n(stages[1])} {moved[1]} {n(doubtful[9])} {state.steps}"""
+
+
 def dam_river_told():
     """The table and first record of the river with a dam in words."""
     table = decode_table(ONE_DAM.table)
@@ -587,7 +606,8 @@ def refused_with(down=0, rain=3_000, release=0, stage=30_000):
 def worked():
     """By name of the example: its numbers as text, in the page's order."""
     return {"the weight": the_weight, "one move": one_move, "one look along a curve": one_look, "one reading": one_reading,
-            "one step of a river": one_step, "one lead": one_lead, "the mean of the last rains": later_rains, "a river with a dam": river_with_a_dam,
+            "one step of a river": one_step, "one lead": one_lead, "the mean of the last rains": later_rains, "a trial": a_trial,
+            "a river with a dam": river_with_a_dam,
             "the weight's 3": weight_errors,
             "margins of the sample river": sample_margins, "noise from a doubt": noises, "rain, stage and curve": rain_and_curve,
             "the highest rain of a basin": basin_sizes, "the sum of variances": variance_sum,
