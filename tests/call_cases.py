@@ -5,6 +5,7 @@ states that no run brings about, lent space, places that no call may touch, each
 and trials of a step.
 """
 from dataclasses import dataclass, replace
+from itertools import product
 from typing import Callable
 
 from calculator.encode import big_endian, record_bytes, table_bytes
@@ -840,6 +841,246 @@ def entry_calls():
         yield Call(f"entry call {number}", "step", TWO, states.get(number, s), bytes(records.get(number, good)))
 
 
+# ---- Trials of a step --------------------------------------------------------------------------------------------------------------------
+
+
+def trial_call(name, random, table, record, state, room=None, more=(0, 0, 1, 5)):
+    """A trial in so much space; if nothing is said, in what it needs and one of these more."""
+    need = 4 * table[8] if len(table) > 8 else 4
+    lent = lent_numbers(random, need + random.choice(more) if room is None else room)
+    return Call(name, "trial", table, state, record, lent, random.randrange(2))
+
+
+def trials_of(*builds, more=(0, 0, 1, 5)):
+    """The steps of these cases, each tried and then made; their starts as they are."""
+    def build_trials(random):
+        for call in (call for build in builds for call in build(random)):
+            if call.entry == "step":
+                yield trial_call(f"{call.name}, tried", random, call.table, call.record, call.state, more=more)
+            if call.entry in ("start", "step"):
+                yield call
+    return build_trials
+
+
+def trial_rooms(count, leads):
+    """Every space around 4 N, which is enough whatever L is, and around what a forecast needs."""
+    def build(random):
+        table = some_table(random, count, "lone", "zero", leads=leads, gauge_count=0)
+        data, record = table_bytes(table), record_bytes(*some_records(random, table, 1, "zero")[0])
+        state, need, forecast = replace(fitting_state(random, data, "small"), steps=3), 4 * count, 4 * count * (leads + 1)
+        for room in (0, 1, 3, need - 4, need - 1, need, need + 1, need + 4, forecast - 1, forecast, forecast + 1, ROOM_FOR_ALL + 1):
+            for side in (0, 1):
+                yield replace(trial_call(f"N {count}, L {leads}, room {room} of {need}", random, data, record, state, room), side=side)
+    return build
+
+
+def refused_by_each():
+    """(number, table, record, state) of a step on the river with dams, on each of a step's numbers alone; 0 where it is accepted."""
+    state = start(DAMS, State())
+
+    def edited(**changes):
+        table = dam_table()
+        table["elements"][0] |= changes.pop("element", {})
+        table["gauges"][0] |= changes.pop("gauge", {})
+        return table_bytes(table | changes)
+
+    def recorded(rains=(3_000, 0), stages=(1_500,), releases=(5, 6), **rest):
+        return record_bytes(rains, stages, releases, **rest)
+
+    right = recorded()
+    yield 0, DAMS, right, state
+    for number, table in ((1, DAMS[:-1]), (2, edited(version=2)), (3, edited(T=0)), (4, edited(N=6)), (5, edited(element=dict(lag=0))),
+                          (6, edited(element=dict(down=1))), (7, edited(gauge=dict(R=0))), (16, edited(element=dict(area=400_000)))):
+        yield number, table, right, state
+    for number, steps in ((8, 10_001), (9, 10_000), (0, 9_999)):
+        yield number, DAMS, right, replace(state, steps=steps)
+    for number, record in ((10, right[:-1]), (11, recorded(version=2)), (12, recorded(rains=(0, 3_001))),
+                           (17, recorded(releases=(0, CEILING + 1))), (13, recorded(stages=(30_001,))), (14, recorded(stages=(499,)))):
+        yield number, DAMS, record, state
+
+
+def trial_orders(random):
+    """15 beside each number of a step: it stands after 14 and before 16."""
+    for number, table, record, state in refused_by_each():
+        for room in (0, 19, 20, 21, 60):
+            call = trial_call(f"{number} with room {room} of 20", random, table, record, state, room)
+            try:
+                found = RULES.trial(table, record, state, call.lent) and 0
+            except Refused as refused:
+                found = refused.number
+            assert found == (15 if room < 20 and number in (0, 16) else number), call.name
+            yield call
+            yield Call(f"{number}, the step", "step", table, state, record)
+
+
+def cut_trials(random):
+    """Table and record cut and spoiled at each byte, and none of them."""
+    state = small_state(random)
+    for at in range(len(SMALL)):
+        yield trial_call(f"table cut at {at}", random, SMALL[:at], SMALL_RECORD, state, SMALL_NEED)
+        value = random.choice(spoiled_values(SMALL[at]))
+        yield trial_call(f"table spoiled at {at} by {value}", random, spoiled(SMALL, at, value), SMALL_RECORD, state)
+    for at in range(len(SMALL_RECORD)):
+        yield trial_call(f"record cut at {at}", random, SMALL, SMALL_RECORD[:at], state)
+        told = big_endian(max(0, at - 2), 2) + SMALL_RECORD[2:at]
+        yield trial_call(f"record cut at {at}, as its length says", random, SMALL, told, state)
+        for value in spoiled_values(SMALL_RECORD[at]):
+            yield trial_call(f"record spoiled at {at} by {value}", random, SMALL, spoiled(SMALL_RECORD, at, value), state)
+    for side in (0, 1):
+        for name, table, record, room in (("nothing", b"", b"", 0), ("no record", SMALL, b"", 16), ("no room", SMALL, SMALL_RECORD, 0)):
+            yield replace(trial_call(name, random, table, record, state, room), side=side)
+
+
+def trial_run(random, table, records):
+    """A start and steps. Before each step its record is tried with other stages, with gaps, with a stage of 13, and as it is."""
+    data, state = table_bytes(table), noise_state(random)
+    yield Call("start", "start", data, state)
+    state = start(data, state)
+    for rains, stages, *releases in records:
+        for doubtful in (some_records(random, table, 1, "typical")[0][1], (GAP,) * len(stages), (30_001,) * len(stages)):
+            yield trial_call("doubtful stages", random, data, record_bytes(rains, doubtful, *releases), state)
+        record = record_bytes(rains, stages, *releases)
+        yield trial_call("trial", random, data, record, state)
+        yield Call("step", "step", data, state, record)
+        try:
+            state = step(data, record, state)
+        except Refused:
+            return
+
+
+def trial_runs(count=None):
+    def build(random):
+        way = random.choice(("typical", "typical", "ceiling"))
+        table = some_table(random, count or random.choice((1, 2, 3, 4)), random.choice(SHAPES), way)
+        return trial_run(random, table, some_records(random, table, 3, "typical"))
+    return build
+
+
+# ---- Trials that differ in one gauge's reading -------------------------------------------------------------------------------------------
+
+
+def reading_trials(random, table, state, fields, number, stages):
+    """Trials that differ in the stage of one gauge (from 0); None where one is refused or two have the same answer."""
+    rains, others, releases = fields
+    calls, answers = [], set()
+    for stage in stages:
+        record = record_bytes(rains, (*others[:number], stage, *others[number + 1:]), releases)
+        calls.append(trial_call(f"gauge {number + 1}, stage {stage}", random, table, record, state))
+        try:
+            answers.add(tuple(RULES.trial(table, record, state, [0] * 256)[1]))
+        except Refused:
+            return None
+    return calls if len(answers) == len(stages) else None
+
+
+def independence(elements, gauged, releases=()):
+    """By gauge trials with one stage, another and a gap: each differs from the next, and only where the gauge's water comes."""
+    table = dict(T=60, L=2, elements=elements, gauges=[gauge(number, R=50_000) for number in gauged])
+    data, basins = table_bytes(table), count_of(table, 1)
+
+    def build(random):
+        first = start(data, noise_state(random))
+        moved = step(data, record_bytes((120,) * basins, [900 + 10 * k for k, _ in enumerate(gauged)], releases), first)
+        for state in (first, moved, replace(moved, steps=9_999)):
+            for number, _ in enumerate(gauged):
+                stages = [random.choice((GAP, random.randint(600, 1_500))) for _ in gauged]
+                fields = [random.randint(0, 300) for _ in range(basins)], stages, releases
+                calls = reading_trials(random, data, state, fields, number, (random.randint(600, 999), random.randint(1_000, 2_000), GAP))
+                assert calls, f"gauge {number + 1} changes nothing"
+                yield from calls
+    return build
+
+
+def water(**rest):
+    return dict(first_discharge=7_000_000, first_variance=900, W=400) | rest
+
+
+def independence_rivers():
+    """(name, elements, gauged elements, releases): where a gauge can stand, and where its water ends."""
+    joined = [basin(down=3, **water()), basin(down=3, lag=90, **water()), reach(down=5, **water()), basin(down=5, area=50, **water()),
+              reach(down=7, lag=120, **water()), reach(**water()), reach(lag=300, **water()), basin(**water())]
+    yield "gauges on all but one", joined, (1, 2, 3, 5, 6, 7, 8), ()
+    dammed = [basin(down=2, **water()), reach(down=4, **water()), basin(down=4, **water()), dam(down=6, **water()),
+              basin(down=6, **water()), reach(down=7, **water()), dam(down=8, **water()), dam(down=9, **water()), reach(**water()),
+              basin(down=11, **water()), dam(**water())]
+    yield "dams", dammed, (1, 2, 3, 5, 6, 9, 10), (10 ** 6, 2 * 10 ** 6, 3 * 10 ** 6, 4 * 10 ** 6)
+    yield "one element", [basin(**water())], (1,), ()
+    chain = [basin(down=2, area=50, **water())] + [reach(down=(k + 1) * (k < 64), **water()) for k in range(2, 65)]
+    yield "chain of 64", chain, tuple(range(1, 65, 4)), ()
+    cut = [dam(down=each["down"], **water()) if k % 8 == 5 else each for k, each in enumerate(chain)]
+    yield "chain of 64 with dams", cut, tuple(range(1, 65, 4)), tuple(10 ** 6 * k for k in range(8))
+    yield "63 basins into a reach", [basin(down=64, area=50, **water()) for _ in range(63)] + [reach(**water())], (*range(1, 61, 4), 64), ()
+
+
+def small_networks():
+    """Every list of kinds and downs of three elements that rules 5 and 6 take, as elements."""
+    makers = {1: basin, 2: reach, 3: dam}
+    for kinds in product((1, 2, 3), repeat=3):
+        later = [[0] + [below for below in range(place + 1, 4) if kinds[below - 1] != 1] for place in (1, 2, 3)]
+        for downs in product(*later):
+            yield [makers[kind](down=down, **water()) for kind, down in zip(kinds, downs)]
+
+
+def independence_of_small(random):
+    """Every network of three elements with a gauge on all that are no dams."""
+    for elements in small_networks():
+        gauged = [number for number, element in enumerate(elements, 1) if element["kind"] != 3]
+        table = table_bytes(dict(T=60, L=1, elements=elements, gauges=[gauge(number, R=50_000) for number in gauged]))
+        basins = sum(element["kind"] == 1 for element in elements)
+        fields = (90,) * basins, tuple(random.randint(600, 1_500) for _ in gauged), (10 ** 6,) * (3 - len(gauged))
+        state = start(table, noise_state(random))
+        for place, _ in enumerate(gauged):
+            yield from reading_trials(random, table, state, fields, place, (random.randint(600, 999), random.randint(1_000, 2_000), GAP))
+
+
+def random_independence(random):
+    """A random river and state, drawn again until a gauge changes something."""
+    while True:
+        count, way = random.choice((2, 3, 5, 8, 12, 64)), random.choice(("typical", "typical", "zero"))
+        table = some_table(random, count, random.choice(SHAPES), way, gauge_count=random.choice((1, 2, 5, 16)))
+        data, fields = table_bytes(table), some_records(random, table, 1, "typical")[0]
+        state = replace(fitting_state(random, data, random.choice(("typical", "small"))), steps=random.choice((0, 3, 9_999)))
+        found = []
+        for number, each in enumerate(table["gauges"]):
+            stages = [some_stage(random, each["pieces"]) for _ in range(2)] + [GAP]
+            found += reading_trials(random, data, state, fields, number, stages) or []
+        if found:
+            return found
+
+
+def trial_cases():
+    edits = [(rule, edited_calls(edit)) for rule, edit in rule_edits()]
+    edits += [(rule, edited_calls(edit, dam_river)) for rule, edit in dam_edits()]
+    for rule in sorted({rule for rule, _ in edits}):
+        yield f"rule {rule}", trials_of(*(build for about, build in edits if about == rule))
+    yield "order of 15", trial_orders
+    yield from ((f"rooms of {count} elements and {leads} leads", trial_rooms(count, leads)) for count in (1, 4, 64) for leads in (1, 12))
+    for build in (counts_and_steps, numbers_of_places, numbers_beyond, whole_river_state, other_river):
+        yield build.__name__.replace("_", " "), trials_of(build)
+    for name, build in (("numbers of places", dam_numbers), ("inflow above C", into_a_dam), ("cut records", dam_records_cut),
+                        ("order of 17", release_orders)):
+        yield f"dam, {name}", trials_of(build)
+    for name, build in ceiling_cases():
+        if "forecast" not in name and " alone" not in name:
+            yield f"ceiling, {name.removesuffix(', step')}", trials_of(build)
+    yield "last places", trials_of(last_place_calls)
+    yield "cut and spoiled", cut_trials
+    for name, build, count in (("several refusals", several_refusals, 6), ("random", random_calls(), 150),
+                               ("random, 64 elements", random_calls(64), 8), ("noise", noise_calls, 15)):
+        yield from ((name, trials_of(build, more=(-1, 0, 0, 3))) for _ in range(count))
+    yield from ((f"independence, {name}", independence(*river)) for name, *river in independence_rivers())
+    yield "independence, every network of 3", independence_of_small
+    yield from (("independence, random", random_independence) for _ in range(30))
+
+
+def trial_run_cases():
+    yield "run", lambda random: trial_run(random, *small_river())
+    yield "run with dams", lambda random: trial_run(random, *dam_river())
+    yield from (("run", trial_runs()) for _ in range(20))
+    yield "run of 12", trial_runs(12)
+    yield from ((f"curve, {name}", trials_of(steps_of(table, records))) for name, table, records in curve_rivers())
+
+
 # ---- The list ----------------------------------------------------------------------------------------------------------------------------
 
 
@@ -880,223 +1121,6 @@ def ceiling_cases():
     yield "margin of a correction", correction_edges
     yield "rain", rain_edges
     yield "highest numbers that stay below", all_at_ceiling
-
-
-# ---- Trials of a step --------------------------------------------------------------------------------------------------------------------
-
-
-def trial(name, random, table, record, state, room=None, more=(0, 0, 1, 5)):
-    """A trial in so much space; if nothing is said, in what it needs and one of these more."""
-    need = 4 * table[8] if len(table) > 8 else 4
-    lent = lent_numbers(random, need + random.choice(more) if room is None else room)
-    return Call(name, "trial", table, state, record, lent, random.randrange(2))
-
-
-def trials_of(*builds, more=(0, 0, 1, 5)):
-    """The steps of these cases, each tried and then made; their starts as they are."""
-    def build_trials(random):
-        for call in (call for build in builds for call in build(random)):
-            if call.entry == "step":
-                yield trial(f"{call.name}, tried", random, call.table, call.record, call.state, more=more)
-            if call.entry in ("start", "step"):
-                yield call
-    return build_trials
-
-
-def trial_rooms(count, leads):
-    """Every space around 4 N, which is enough whatever L is, and around what a forecast needs."""
-    def build(random):
-        table = some_table(random, count, "lone", "zero", leads=leads, gauge_count=0)
-        data, record = table_bytes(table), record_bytes(*some_records(random, table, 1, "zero")[0])
-        state, need, forecast = replace(fitting_state(random, data, "small"), steps=3), 4 * count, 4 * count * (leads + 1)
-        for room in (0, 1, 3, need - 4, need - 1, need, need + 1, need + 4, forecast - 1, forecast, forecast + 1, ROOM_FOR_ALL + 1):
-            for side in (0, 1):
-                yield replace(trial(f"N {count}, L {leads}, room {room} of {need}", random, data, record, state, room), side=side)
-    return build
-
-
-def refused_by_each():
-    """(number, table, record, state) of a step on the river with dams, on each of a step's numbers alone; 0 where it is accepted."""
-    state = start(DAMS, State())
-
-    def edited(**changes):
-        table = dam_table()
-        table["elements"][0] |= changes.pop("element", {})
-        table["gauges"][0] |= changes.pop("gauge", {})
-        return table_bytes(table | changes)
-
-    def recorded(rains=(3_000, 0), stages=(1_500,), releases=(5, 6), **rest):
-        return record_bytes(rains, stages, releases, **rest)
-
-    right = recorded()
-    yield 0, DAMS, right, state
-    for number, table in ((1, DAMS[:-1]), (2, edited(version=2)), (3, edited(T=0)), (4, edited(N=6)), (5, edited(element=dict(lag=0))),
-                          (6, edited(element=dict(down=1))), (7, edited(gauge=dict(R=0))), (16, edited(element=dict(area=400_000)))):
-        yield number, table, right, state
-    for number, steps in ((8, 10_001), (9, 10_000), (0, 9_999)):
-        yield number, DAMS, right, replace(state, steps=steps)
-    for number, record in ((10, right[:-1]), (11, recorded(version=2)), (12, recorded(rains=(0, 3_001))),
-                           (17, recorded(releases=(0, CEILING + 1))), (13, recorded(stages=(30_001,))), (14, recorded(stages=(499,)))):
-        yield number, DAMS, record, state
-
-
-def trial_orders(random):
-    """15 beside each number of a step: it stands after 14 and before 16."""
-    for number, table, record, state in refused_by_each():
-        for room in (0, 19, 20, 21, 60):
-            call = trial(f"{number} with room {room} of 20", random, table, record, state, room)
-            try:
-                found = RULES.trial(table, record, state, call.lent) and 0
-            except Refused as refused:
-                found = refused.number
-            assert found == (15 if room < 20 and number in (0, 16) else number), call.name
-            yield call
-            yield Call(f"{number}, the step", "step", table, state, record)
-
-
-def cut_trials(random):
-    """Table and record cut and spoiled at each byte, and none of them."""
-    state = small_state(random)
-    for at in range(len(SMALL)):
-        yield trial(f"table cut at {at}", random, SMALL[:at], SMALL_RECORD, state, SMALL_NEED)
-        value = random.choice(spoiled_values(SMALL[at]))
-        yield trial(f"table spoiled at {at} by {value}", random, spoiled(SMALL, at, value), SMALL_RECORD, state)
-    for at in range(len(SMALL_RECORD)):
-        yield trial(f"record cut at {at}", random, SMALL, SMALL_RECORD[:at], state)
-        yield trial(f"record cut at {at}, as its length says", random, SMALL, big_endian(max(0, at - 2), 2) + SMALL_RECORD[2:at], state)
-        for value in spoiled_values(SMALL_RECORD[at]):
-            yield trial(f"record spoiled at {at} by {value}", random, SMALL, spoiled(SMALL_RECORD, at, value), state)
-    for side in (0, 1):
-        for name, table, record, room in (("nothing", b"", b"", 0), ("no record", SMALL, b"", 16), ("no room", SMALL, SMALL_RECORD, 0)):
-            yield replace(trial(name, random, table, record, state, room), side=side)
-
-
-def trial_run(random, table, records):
-    """A start and steps. Before each step its record is tried with other stages, with gaps, with a stage of 13, and as it is."""
-    data, state = table_bytes(table), noise_state(random)
-    yield Call("start", "start", data, state)
-    state = start(data, state)
-    for rains, stages, *releases in records:
-        for doubtful in (some_records(random, table, 1, "typical")[0][1], (GAP,) * len(stages), (30_001,) * len(stages)):
-            yield trial("doubtful stages", random, data, record_bytes(rains, doubtful, *releases), state)
-        record = record_bytes(rains, stages, *releases)
-        yield trial("trial", random, data, record, state)
-        yield Call("step", "step", data, state, record)
-        try:
-            state = step(data, record, state)
-        except Refused:
-            return
-
-
-def trial_runs(count=None):
-    def build(random):
-        way = random.choice(("typical", "typical", "ceiling"))
-        table = some_table(random, count or random.choice((1, 2, 3, 4)), random.choice(SHAPES), way)
-        return trial_run(random, table, some_records(random, table, 3, "typical"))
-    return build
-
-
-# ---- Trials that differ in one gauge's reading -------------------------------------------------------------------------------------------
-
-
-def reading_trials(random, table, state, fields, number, stages):
-    """Trials that differ in the stage of one gauge (from 0); None where one is refused or two have the same answer."""
-    rains, others, releases = fields
-    calls, answers = [], set()
-    for stage in stages:
-        record = record_bytes(rains, (*others[:number], stage, *others[number + 1:]), releases)
-        calls.append(trial(f"gauge {number + 1}, stage {stage}", random, table, record, state))
-        try:
-            answers.add(tuple(RULES.trial(table, record, state, [0] * 256)[1]))
-        except Refused:
-            return None
-    return calls if len(answers) == len(stages) else None
-
-
-def independence(elements, gauged, releases=()):
-    """By gauge trials with one stage, another and a gap: each pair of neighbours differs, and only where the gauge's water comes."""
-    table = dict(T=60, L=2, elements=elements, gauges=[gauge(number, R=50_000) for number in gauged])
-    data, basins = table_bytes(table), count_of(table, 1)
-
-    def build(random):
-        first = start(data, noise_state(random))
-        moved = step(data, record_bytes((120,) * basins, [900 + 10 * k for k, _ in enumerate(gauged)], releases), first)
-        for state in (first, moved, replace(moved, steps=9_999)):
-            for number, _ in enumerate(gauged):
-                stages = [random.choice((GAP, random.randint(600, 1_500))) for _ in gauged]
-                fields = [random.randint(0, 300) for _ in range(basins)], stages, releases
-                calls = reading_trials(random, data, state, fields, number, (random.randint(600, 999), random.randint(1_000, 2_000), GAP))
-                assert calls, f"gauge {number + 1} changes nothing"
-                yield from calls
-    return build
-
-
-def water(**rest):
-    return dict(first_discharge=7_000_000, first_variance=900, W=400) | rest
-
-
-def independence_rivers():
-    """(name, elements, gauged elements, releases): where a gauge can stand, and where its water ends."""
-    joined = [basin(down=3, **water()), basin(down=3, lag=90, **water()), reach(down=5, **water()), basin(down=5, area=50, **water()),
-              reach(down=7, lag=120, **water()), reach(**water()), reach(lag=300, **water()), basin(**water())]
-    yield "gauges on all but one", joined, (1, 2, 3, 5, 6, 7, 8), ()
-    dammed = [basin(down=2, **water()), reach(down=4, **water()), basin(down=4, **water()), dam(down=6, **water()),
-              basin(down=6, **water()), reach(down=7, **water()), dam(down=8, **water()), dam(down=9, **water()), reach(**water()),
-              basin(down=11, **water()), dam(**water())]
-    yield "dams", dammed, (1, 2, 3, 5, 6, 9, 10), (10 ** 6, 2 * 10 ** 6, 3 * 10 ** 6, 4 * 10 ** 6)
-    yield "one element", [basin(**water())], (1,), ()
-    chain = [basin(down=2, area=50, **water())] + [reach(down=(k + 1) * (k < 64), **water()) for k in range(2, 65)]
-    yield "chain of 64", chain, tuple(range(1, 65, 4)), ()
-    cut = [dam(down=each["down"], **water()) if k % 8 == 5 else each for k, each in enumerate(chain)]
-    yield "chain of 64 with dams", cut, tuple(range(1, 65, 4)), tuple(10 ** 6 * k for k in range(8))
-    yield "63 basins into a reach", [basin(down=64, area=50, **water()) for _ in range(63)] + [reach(**water())], (*range(1, 61, 4), 64), ()
-
-
-def random_independence(random):
-    """A random river and state, drawn again until a gauge changes something."""
-    while True:
-        count, way = random.choice((2, 3, 5, 8, 12, 64)), random.choice(("typical", "typical", "zero"))
-        table = some_table(random, count, random.choice(SHAPES), way, gauge_count=random.choice((1, 2, 5, 16)))
-        data, fields = table_bytes(table), some_records(random, table, 1, "typical")[0]
-        state = replace(fitting_state(random, data, random.choice(("typical", "small"))), steps=random.choice((0, 3, 9_999)))
-        found = []
-        for number, each in enumerate(table["gauges"]):
-            stages = [some_stage(random, each["pieces"]) for _ in range(2)] + [GAP]
-            found += reading_trials(random, data, state, fields, number, stages) or []
-        if found:
-            return found
-
-
-def trial_cases():
-    edits = [(rule, edited_calls(edit)) for rule, edit in rule_edits()]
-    edits += [(rule, edited_calls(edit, dam_river)) for rule, edit in dam_edits()]
-    for rule in sorted({rule for rule, _ in edits}):
-        yield f"rule {rule}", trials_of(*(build for about, build in edits if about == rule))
-    yield "order of 15", trial_orders
-    yield from ((f"rooms of {count} elements and {leads} leads", trial_rooms(count, leads)) for count in (1, 4, 64) for leads in (1, 12))
-    for build in (counts_and_steps, numbers_of_places, numbers_beyond, whole_river_state, other_river):
-        yield build.__name__.replace("_", " "), trials_of(build)
-    for name, build in (("numbers of places", dam_numbers), ("inflow above C", into_a_dam), ("cut records", dam_records_cut),
-                        ("order of 17", release_orders)):
-        yield f"dam, {name}", trials_of(build)
-    for name, build in ceiling_cases():
-        if "forecast" not in name and " alone" not in name:
-            yield f"ceiling, {name.removesuffix(', step')}", trials_of(build)
-    yield "last places", trials_of(last_place_calls)
-    yield "cut and spoiled", cut_trials
-    for name, build, count in (("several refusals", several_refusals, 6), ("random", random_calls(), 150),
-                               ("random, 64 elements", random_calls(64), 8), ("noise", noise_calls, 15)):
-        yield from ((name, trials_of(build, more=(-1, 0, 0, 3))) for _ in range(count))
-    yield from ((f"independence, {name}", independence(*river)) for name, *river in independence_rivers())
-    yield from (("independence, random", random_independence) for _ in range(30))
-
-
-def trial_run_cases():
-    yield "run", lambda random: trial_run(random, *small_river())
-    yield "run with dams", lambda random: trial_run(random, *dam_river())
-    yield from (("run", trial_runs()) for _ in range(20))
-    yield "run of 12", trial_runs(12)
-    yield from ((f"curve, {name}", trials_of(steps_of(table, records))) for name, table, records in curve_rivers())
 
 
 def cases():

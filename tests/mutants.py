@@ -995,7 +995,7 @@ class FifteenAfterSixteen(Rules):
 
 
 class FifteenBeforeFourteen(Rules):
-    """15 in the place of what stands from a number on."""
+    """15 is judged before these numbers."""
     passed = (14,)
 
     def trial(self, table_bytes, record, state, lent):
