@@ -54,8 +54,8 @@ pub step-near :
     → Follows (newFigures t own o old i) (exactNewFigures t own* o* old* i)
 unfolding newFigures exactNewFigures newCell outflow networkOutflow exactOutflow networkCell exactCell elementStep exactElementStep weightOf
 step-near t own o old own* o* old* b hown ho hold =
-    new-cell-kept Follows noInflow joinedInflow exactNothing exactSum no-inflow-near
-    (λ a c d e. joined-inflow-near) Follows (networkDown t) (networkCell t own o) networkOutflow old (exactCell t own* o*) exactOutflow old*
+    new-cell-kept (λ _. Follows) noInflow joinedInflow exactNothing exactSum (λ _. no-inflow-near)
+    (λ _ a c d e. joined-inflow-near) (λ _. Follows) (networkDown t) (networkCell t own o) networkOutflow old (exactCell t own* o*) exactOutflow old*
     (t .elements) cell out
   where
     cell :
