@@ -1,13 +1,10 @@
 -- What an accepted start, step and forecast give.
-use Prim.{Unit}
 use Prim.Native.Nat.{ℕ}
 use mathlib.Core.List.{List}
-use mathlib.Core.Path.{_≡_, refl, sym, _∙_}
-use Rattle.refusal.specs.Answers.{Answer, accepted, refused}
-use Rattle.refusal.proofs.RuleLaws.{not-both}
+use mathlib.Core.Path.{_≡_}
+use Rattle.refusal.specs.Answers.{accepted}
 use Rattle.method.specs.declared.Figures.{Figures}
 use Rattle.table.specs.Tables.{TableValues}
-use Rattle.table.specs.Rules.{tableRules}
 use Rattle.table.specs.InUse.{tableIn}
 use Rattle.table.specs.Bounds.{TableBounds}
 use Rattle.table.proofs.InUseLaws.{bounds-in-use}
@@ -21,20 +18,6 @@ use Rattle.entries.specs.Entries.{startAnswer, stepAnswer, forecastAnswer}
 use Rattle.entries.proofs.NextLaws.{Stepping, stepping-on}
 use Rattle.entries.proofs.ForecastLaws.{Forecasting, forecasting-on}
 
--- rules before an accepted answer are kept
-pub table-kept :
-    {A : Type 0} (bytes : List ℕ) (rest : Answer A) {a : A}
-    → tableRules bytes rest ≡ accepted a
-    → (tableRules {A = Unit} bytes (accepted tt) ≡ accepted tt) × (rest ≡ accepted a)
-table-kept bytes rest {a} h = go (tableRules {A = Unit} bytes (accepted tt)) refl
-  where
-    go :
-        (r : Answer Unit)
-        → tableRules {A = Unit} bytes (accepted tt) ≡ r
-        → (tableRules {A = Unit} bytes (accepted tt) ≡ accepted tt) × (rest ≡ accepted a)
-    go (accepted u) e = (e, sym (table-laws.rules-accepted bytes rest e) ∙ h)
-    go (refused k) e = absurd (not-both h (table-laws.rules-refused bytes rest e))
-
 -- an accepted start
 pub record Starting (t : TableValues) (any s : State) : Type 0 where
   pub bounds : TableBounds t
@@ -43,7 +26,7 @@ pub record Starting (t : TableValues) (any s : State) : Type 0 where
 pub starting : (table : List ℕ) (any s : State) → startAnswer table any ≡ accepted s → Starting (tableIn table) any s
 unfolding startAnswer tableIn
 starting table any s h =
-    let k = table-kept table _ h in
+    let k = table-laws.table-kept table _ h in
     record { bounds = bounds-in-use _ (table-laws.table-bounds table (k .0)); state = cc (k .1) }
 
 -- an accepted step
@@ -52,7 +35,7 @@ pub stepping :
     → stepAnswer table bytes s ≡ accepted next
     → Stepping (tableIn table) bytes s × (next ≡ stepped (tableIn table) (inputAt (tableIn table) bytes) s)
 unfolding stepAnswer
-stepping table bytes s next h = stepping-on (tableIn table) bytes s next (table-kept table _ h .1)
+stepping table bytes s next h = stepping-on (tableIn table) bytes s next (table-laws.table-kept table _ h .1)
 
 -- an accepted forecast
 pub forecasting :
@@ -60,4 +43,4 @@ pub forecasting :
     → forecastAnswer table s room ≡ accepted figures
     → Forecasting (tableIn table) s × (figures ≡ forecastFigures (tableIn table) s)
 unfolding forecastAnswer
-forecasting table s room figures h = forecasting-on (tableIn table) s room figures (table-kept table _ h .1)
+forecasting table s room figures h = forecasting-on (tableIn table) s room figures (table-laws.table-kept table _ h .1)

@@ -10,7 +10,7 @@ use native.Mathlib.Nat.{eq-or-lt-of-le}
 use native.Mathlib.Omega.{arith}
 use lib.ListN.{length}
 use Rattle.sizes.specs.Sizes.{stateNumbers}
-use Rattle.refusal.specs.Answers.{Answer, accepted, refused}
+use Rattle.refusal.specs.Answers.{accepted, refused}
 use Rattle.refusal.proofs.RuleLaws.{not-both, rule-kept}
 use Rattle.refusal.specs.declared.Verdict.{Verdict}
 use Rattle.refusal.specs.declared.Verdict.the-variants.{Accepted}
@@ -57,7 +57,7 @@ use Rattle.element_step.specs.Rains.{shiftedRains}
 use Rattle.network.specs.Step.{networkCell, aboveOf, newFigures, networkNumbers, stepOwn, observedIn, stepFigures, stepped, stepNumbers}
 use Rattle.network.proofs.NumbersLaws.{element-part}
 use Rattle.network.proofs.StepLaws.{stepped-length, stepped-elements, stepped-steps, stepped-figures, stepped-rains}
-use Rattle.entries.specs.Entries.{stepOnAnswer}
+use Rattle.entries.specs.Entries.{stepRules, stepOnAnswer}
 
 -- ---- the figures
 
@@ -152,22 +152,8 @@ bounds-fit t s b h =
     (all-below _ (t .elements)
     (λ i l. place-fits (t .element i .kind) (placeOf s i) (b .element i l .kind) (h .figures i l) (h .rains i l)))
 
--- ---- rules before an accepted answer are kept
+-- ---- an answer that rule 16 lets through
 
-pub rules-kept :
-    {A : Type 0} (t : TableValues) (bytes : List ℕ) (rest : Answer A) {a : A}
-    → recordRules t bytes rest ≡ accepted a
-    → (recordRules {A = Unit} t bytes (accepted tt) ≡ accepted tt) × (rest ≡ accepted a)
-rules-kept t bytes rest {a} h = go (recordRules {A = Unit} t bytes (accepted tt)) refl
-  where
-    go :
-        (r : Answer Unit)
-        → recordRules {A = Unit} t bytes (accepted tt) ≡ r
-        → (recordRules {A = Unit} t bytes (accepted tt) ≡ accepted tt) × (rest ≡ accepted a)
-    go (accepted u) e = (e, sym (record-laws.rules-accepted t bytes rest e) ∙ h)
-    go (refused k) e = absurd (not-both h (record-laws.rules-refused t bytes rest e))
-
--- an answer that rule 16 lets through
 pub under-kept : {A : Type 0} (ns : List ℕ) (a : A) {x : A} → underCeiling ns a ≡ accepted x → (x ≡ a) × Under ns
 unfolding underCeiling
 under-kept {A} ns a {x} h = go (somePasses ns) refl h
@@ -226,11 +212,11 @@ pub stepping-on :
     (t : TableValues) (bytes : List ℕ) (s next : State)
     → stepOnAnswer t bytes s ≡ accepted next
     → Stepping t bytes s × (next ≡ stepped t (inputAt t bytes) s)
-unfolding stepOnAnswer
+unfolding stepRules stepOnAnswer
 stepping-on t bytes s next h =
     let b = rule-kept 8 (stateFits t s) _ h in
     let c = rule-kept 9 (stepsLeft s) _ (b .1) in
-    let d = rules-kept t bytes _ (c .1) in
+    let d = record-laws.record-kept t bytes _ (c .1) in
     let e = under-kept (stepNumbers t (inputAt t bytes) s) (stepped t (inputAt t bytes) s) (d .1) in
     (record { fits = b .0; left = c .0; kept = d .0; under = e .1 }, e .0)
 

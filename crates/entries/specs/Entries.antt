@@ -20,12 +20,13 @@ use Rattle.network.specs.Answer.{leadsAnswer}
 unfoldable pub startAnswer : List ℕ → State → Answer State
 startAnswer table s = tableRules table (accepted (started (tableIn table) s))
 
+-- a step's rules from 8 to 14, with 17, in checking order; where all are kept, what follows them decides
+unfoldable pub stepRules : {A : Type 0} → TableValues → List ℕ → State → Answer A → Answer A
+stepRules t bytes s rest = rule 8 (stateFits t s) (rule 9 (stepsLeft s) (recordRules t bytes rest))
+
 -- a step on an accepted table and the bytes of a record
 unfoldable pub stepOnAnswer : TableValues → List ℕ → State → Answer State
-stepOnAnswer t bytes s =
-    rule 8 (stateFits t s)
-    (rule 9 (stepsLeft s)
-    (recordRules t bytes (underCeiling (stepNumbers t (inputAt t bytes) s) (stepped t (inputAt t bytes) s))))
+stepOnAnswer t bytes s = stepRules t bytes s (underCeiling (stepNumbers t (inputAt t bytes) s) (stepped t (inputAt t bytes) s))
 
 -- a step on the bytes of a table and of a record
 unfoldable pub stepAnswer : List ℕ → List ℕ → State → Answer State

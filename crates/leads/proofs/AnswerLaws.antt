@@ -3,22 +3,18 @@ use Prim.Native.Nat.{ℕ, _+_, _*_, _-_, _≤_, _<_}
 use mathlib.Core.Bool.{Bool, true, false}
 use mathlib.Core.List.{List, _++_}
 use mathlib.Core.Path.{_≡_, refl, sym, ap, _∙_}
-use borrow.Author.Tests.{le-leb, lt-leb}
 use native.Mathlib.Decide.{decLe}
-use native.Mathlib.Nat.{mul-le-mul, zero-add}
+use native.Mathlib.Nat.{mul-le-mul}
 use native.Mathlib.Omega.{arith}
 use lib.ListN.{length, getD, take, drop, replicate, getD-replicate, length-drop, List·getD-eq-default, length-replicate}
 use lib.Seq.{paste, take-all, take-append-le, drop-append-le}
 use Rattle.sizes.specs.Sizes.{mostElements, mostLeads, answerNumbers}
 use Rattle.refusal.specs.Answers.{accepted, refused}
-use Rattle.refusal.specs.Verdicts.{verdictAnswer}
 use Rattle.refusal.specs.declared.Refusal.{Refusal}
 use Rattle.refusal.specs.declared.Refusal.the-variants.{AnswerSpace, AboveCeiling}
 use Rattle.refusal.specs.declared.Verdict.{Verdict}
 use Rattle.refusal.specs.declared.Verdict.the-variants.{Accepted, Refused}
 use Rattle.refusal.proofs.RuleLaws.{not-both}
-use Rattle.units.specs.Ceiling.{underCeiling}
-use Rattle.units.proofs.CeilingLaws.{same-accepted, same-refused}
 use Rattle.method.specs.declared.Figures.{Figures}
 use Rattle.table.specs.declared.Counts.{Counts}
 use Rattle.table.specs.Tables.{TableValues}
@@ -32,11 +28,12 @@ use Rattle.network.specs.declared.ForecastAnswer.{ForecastAnswer}
 use Rattle.network.specs.declared.ForecastAnswer.the-variants as of-forecast
 use Rattle.network.specs.Forecast.{leadFigures, leadNumbers}
 use Rattle.network.specs.Answer.{forecastFigures, spaceFits, leadsAnswer}
-use Rattle.network.specs.Lent.{layout, countAnswer, countWritten, lentAfter, Lent}
+use Rattle.network.specs.Lent.{layout, Lent}
 use Rattle.network.proofs.LayoutLaws.{layout-length, by-lead-length}
+use Rattle.network.proofs.LentLaws.{space-refused, space-accepted, ceiling-refused, written-accepted, written-refused, none-copied, all-copied}
 use Rattle.answer_space.specs.Places.{figuresAt}
 use Rattle.network_leads.specs.Worked.{Given, spaceSize, Empty, LeadsHeld, LeadsWorked}
-use Rattle.leads.specs.Held.{answerSize, CopyReady, countBy, Copied, ForecastHeld}
+use Rattle.leads.specs.Held.{answerSize, CopyReady, countedBy, Copied, ForecastHeld}
 use Rattle.leads.proofs.LayoutLaws.{figures-after, answer-laid}
 
 -- ---- what is given, and the numbers that a river needs
@@ -140,47 +137,22 @@ layout-size t s =
     same : {n : ℕ} → n ≡ t .elements * (t .leads + 1) → 4 * n ≡ answerSize t
     same e = omega (arith, e)
 
--- ---- rules 15 and 16
+-- ---- rules 15 and 16, and the numbers copied
 
--- 15
-pub space-refused :
+-- 15, with the space that is too small
+pub too-small :
     (t : TableValues) (s : State) (out : List ℕ)
     → length out < answerSize t
     → Lent (of-forecast.Refused AnswerSpace) out (leadsAnswer t s (length out)) out
-unfolding leadsAnswer spaceFits countWritten lentAfter
-space-refused t s out h = rw (lt-leb _ _ h) (record { count = refl; numbers = refl })
-
-module _ (t : TableValues) (s : State) (room : ℕ) (fits : answerSize t ≤ room) where
-  kept : leadsAnswer t s room ≡ underCeiling (leadNumbers t s (t .leads)) (forecastFigures t s)
-  unfolding leadsAnswer spaceFits
-  kept = rw (le-leb _ _ fits)
-
-  module _ {v : Verdict} {space : List ℕ} (h : LeadsWorked v space t s) where
-    answer-accepted : v ≡ Accepted → leadsAnswer t s room ≡ accepted (forecastFigures t s)
-    answer-accepted e = kept ∙ same-accepted tt (forecastFigures t s) _ (sym (ap verdictAnswer e) ∙ h .verdict) .1
-
-    -- 16
-    answer-refused : {j : Refusal} → v ≡ Refused j → leadsAnswer t s room ≡ refused 16
-    answer-refused e = kept ∙ same-refused tt (forecastFigures t s) _ (sym (ap verdictAnswer e) ∙ h .verdict)
-
-    -- the count of either
-    count-accepted : v ≡ Accepted → accepted (answerSize t) ≡ countWritten (leadsAnswer t s room)
-    unfolding countWritten
-    count-accepted e = rw (answer-accepted e) (ap accepted (sym (layout-size t s)))
-
-    count-refused : {j : Refusal} → v ≡ Refused j → refused 16 ≡ countWritten (leadsAnswer t s room)
-    unfolding countWritten
-    count-refused e = rw (answer-refused e)
-
--- ---- the numbers copied
+unfolding leadsAnswer spaceFits
+too-small t s = space-refused (answerSize t) (leadNumbers t s (t .leads)) (forecastFigures t s)
 
 module _
     (t : TableValues) (s : State) (out : List ℕ) (fits : answerSize t ≤ length out) {v : Verdict} {space : List ℕ}
     (h : LeadsWorked v space t s) where
   pub not-copied : {j : Refusal} → v ≡ Refused j → Copied false t s out out
-  unfolding lentAfter
-  not-copied e =
-      record { count = count-refused t s _ fits h e; numbers = rw (answer-refused t s _ fits h e) }
+  unfolding leadsAnswer spaceFits countedBy
+  not-copied e = none-copied (answerSize t) (leadNumbers t s (t .leads)) (forecastFigures t s) out fits (h .verdict) e
 
   -- all of the answer
   pub copied :
@@ -190,30 +162,20 @@ module _
       → after ≡ paste out 0 (take (length space - from) (drop from space)) needed
       → v ≡ Accepted
       → Copied true t s out after
-  unfolding lentAfter
-  copied room start size a e =
-      record {
-        count = count-accepted t s _ fits h e;
-        numbers =
-            a
-            ∙ rw (
-              part-is t space room start,
-              size,
-              answer-accepted t s _ fits h e,
-              laid t space room s (h .held e),
-              layout-size t s,
-              zero-add (answerSize t),
-            );
-      }
+  unfolding leadsAnswer spaceFits countedBy
+  copied room {from} start size a e =
+      all-copied (answerSize t) (leadNumbers t s (t .leads)) (forecastFigures t s) out fits (h .verdict)
+      (take (length space - from) (drop from space)) (layout-size t s)
+      (rw (part-is t space room start) (laid t space room s (h .held e))) size a e refl
 
 -- the answer by what was copied
 pub lent-by :
-    {t : TableValues} {s : State} {under : Bool} {out after : List ℕ} {r : ForecastAnswer} {needed : ℕ}
+    (t : TableValues) (s : State) (under : Bool) {out after : List ℕ} {r : ForecastAnswer} {needed : ℕ}
     → Copied under t s out after
     → needed ≡ answerSize t
-    → countAnswer r ≡ countBy under needed
+    → r ≡ countedBy under needed
     → Lent r after (leadsAnswer t s (length out)) out
-lent-by {under = under} h size c = record { count = c ∙ (ap (countBy under) size ∙ h .count); numbers = h .numbers }
+lent-by t s under h size c = rw (c, size) h
 
 -- ---- the answer where it was worked out
 
@@ -224,13 +186,21 @@ module _
   fits : answerSize t ≤ answerNumbers
   fits = answer-most _ _ (b .elementsMost) (b .leadsMost)
 
+  answer-accepted : v ≡ Accepted → leadsAnswer t s answerNumbers ≡ accepted (forecastFigures t s)
+  unfolding leadsAnswer spaceFits
+  answer-accepted e = space-accepted (answerSize t) _ _ answerNumbers fits (h .verdict) e
+
+  answer-refused : {j : Refusal} → v ≡ Refused j → leadsAnswer t s answerNumbers ≡ refused 16
+  unfolding leadsAnswer spaceFits
+  answer-refused e = ceiling-refused (answerSize t) _ _ answerNumbers fits (h .verdict) e
+
   pub held-accepted : {count : ℕ} → count ≡ answerSize t → v ≡ Accepted → ForecastHeld (of-forecast.Accepted count) (worked ++ rest) t s
   held-accepted size e =
       record {
-        count = ap accepted size ∙ count-accepted t s answerNumbers fits h e;
+        count = ap accepted size ∙ written-accepted (layout-size t s) (answer-accepted e);
         numbers =
             λ fs a.
-            rw (figures-are fs (sym a ∙ answer-accepted t s answerNumbers fits h e), layout-size t s)
+            rw (figures-are fs (sym a ∙ answer-accepted e), layout-size t s)
             (first ∙ laid t worked (omega (arith, long)) s (h .held e));
       }
     where
@@ -247,6 +217,6 @@ module _
   pub held-refused : {j : Refusal} → v ≡ Refused j → ForecastHeld (of-forecast.Refused AboveCeiling) (worked ++ rest) t s
   held-refused e =
       record {
-        count = count-refused t s answerNumbers fits h e;
-        numbers = λ fs a. absurd (not-both a (answer-refused t s answerNumbers fits h e));
+        count = written-refused (answer-refused e);
+        numbers = λ fs a. absurd (not-both a (answer-refused e));
       }

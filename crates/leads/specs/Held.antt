@@ -1,20 +1,20 @@
 -- Serves the code: what a forecast relies on, and what it leaves in lent space.
 use Prim.Native.Nat.{ℕ, _+_, _*_, _≤_}
-use mathlib.Core.Bool.{Bool, cond}
+use mathlib.Core.Bool.{Bool, true, false}
 use mathlib.Core.List.{List}
 use mathlib.Core.Path.{_≡_}
 use lib.ListN.{length, take, drop}
 use Rattle.sizes.specs.Sizes.{answerNumbers}
-use Rattle.refusal.specs.Refusals.{number}
-use Rattle.refusal.specs.Answers.{Answer, accepted, refused}
+use Rattle.refusal.specs.Answers.{accepted}
 use Rattle.refusal.specs.declared.Refusal.the-variants.{AboveCeiling}
 use Rattle.method.specs.declared.Figures.{Figures}
 use Rattle.table.specs.Tables.{TableValues}
 use Rattle.table.specs.InUse.{tableIn}
 use Rattle.state.specs.States.{State}
 use Rattle.network.specs.declared.ForecastAnswer.{ForecastAnswer}
+use Rattle.network.specs.declared.ForecastAnswer.the-variants.{Accepted, Refused}
 use Rattle.network.specs.Answer.{leadsAnswer}
-use Rattle.network.specs.Lent.{layout, countAnswer, countWritten, lentAfter}
+use Rattle.network.specs.Lent.{layout, countAnswer, countWritten, Lent}
 use Rattle.network_leads.specs.Worked.{Given, spaceSize}
 
 -- the numbers of the answer
@@ -28,13 +28,13 @@ pub record CopyReady (bytes : List ℕ) (n L T : ℕ) (weight : List ℕ) (s : S
   pub answer : answerSize (tableIn bytes) ≤ lent
 
 -- the count of numbers where none passes the ceiling, or 16
-abbrev pub countBy : Bool → ℕ → Answer ℕ
-countBy under count = cond under (accepted count) (refused (number AboveCeiling))
+unfoldable pub countedBy : Bool → ℕ → ForecastAnswer
+countedBy true count = Accepted count
+countedBy false count = Refused AboveCeiling
 
 -- whether no number passes, and the lent numbers, into which the answer is copied where none does
-pub record Copied (under : Bool) (t : TableValues) (s : State) (before after : List ℕ) : Type 0 where
-  pub count : countBy under (answerSize t) ≡ countWritten (leadsAnswer t s (length before))
-  pub numbers : after ≡ lentAfter (leadsAnswer t s (length before)) before
+abbrev pub Copied : Bool → TableValues → State → List ℕ → List ℕ → Type 0
+Copied under t s before after = Lent (countedBy under (answerSize t)) after (leadsAnswer t s (length before)) before
 
 -- a forecast in lent space, in which the answer begins after the places of what leaves the river: the count, and the answer's numbers
 -- where it is accepted; what the space then holds elsewhere, and what it holds where it is refused, is left open

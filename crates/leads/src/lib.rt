@@ -8,9 +8,9 @@ ghost use Rattle.table.specs.InUse.{tableIn};
 ghost use Rattle.state.specs.Rules.{stateFits};
 ghost use Rattle.element_weights.specs.Weights.{Weighed};
 ghost use Rattle.network.specs.Answer.{leadsAnswer};
-ghost use Rattle.network.specs.Lent.{countAnswer, Lent};
+ghost use Rattle.network.specs.Lent.{Lent};
 ghost use Rattle.network_leads.specs.Worked.{Empty};
-ghost use Rattle.leads.specs.Held.{CopyReady, countBy, Copied, ForecastHeld};
+ghost use Rattle.leads.specs.Held.{CopyReady, countedBy, Copied, ForecastHeld};
 use answer_space::copy_numbers;
 use network::ForecastAnswer;
 use network_leads::work_leads;
@@ -199,7 +199,7 @@ fn in_large(
 
 // The count of numbers that were worked out, or 16 where one passes the ceiling.
 fn counted_by(under: bool, count: usize) -> ForecastAnswer
-    ensures { λ r. ⌜ countAnswer r ≡ countBy under count ⌝ }
+    ensures { λ r. ⌜ r ≡ countedBy under count ⌝ }
 {
     if under {
         ForecastAnswer::Accepted(count)

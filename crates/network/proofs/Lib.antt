@@ -1,3 +1,4 @@
 pub mod StepLaws
 pub mod NumbersLaws
 pub mod LayoutLaws
+pub mod LentLaws

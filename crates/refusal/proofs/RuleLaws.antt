@@ -12,10 +12,18 @@ not-both p q = let z : _≡_ {A = ℕ} 0 1 = cc in omega arith
 
 -- what follows a rule
 pub rule-then :
-    {A : Type 0} (n : ℕ) (kept : Bool) (r : Answer Unit) (rest : Answer A)
-    → andThen (rule n kept r) (λ _. rest) ≡ rule n kept (andThen r (λ _. rest))
-rule-then n true r rest = refl
-rule-then n false r rest = refl
+    {A B : Type 0} (n : ℕ) (kept : Bool) (r : Answer A) (f : A → Answer B)
+    → andThen (rule n kept r) f ≡ rule n kept (andThen r f)
+rule-then n true r f = refl
+rule-then n false r f = refl
+
+-- rules and an answer after them, both accepted
+pub then-kept :
+    {A : Type 0} (r : Answer Unit) (rest : Answer A) {a : A}
+    → andThen r (λ _. rest) ≡ accepted a
+    → (r ≡ accepted tt) × (rest ≡ accepted a)
+then-kept (accepted u) rest h = (refl, h)
+then-kept (refused k) rest h = absurd (not-both h refl)
 
 -- a rule before an accepted answer is kept
 pub rule-kept :

@@ -3,9 +3,9 @@ use Prim.{Unit}
 use Prim.Native.Nat.{ℕ, _+_, _≤_}
 use mathlib.Core.Bool.{Bool, true}
 use mathlib.Core.List.{List}
-use mathlib.Core.Path.{_≡_}
+use mathlib.Core.Path.{_≡_, _∙_}
 use Rattle.sizes.specs.Sizes.{mostElements, mostLeads, mostGauges}
-use Rattle.refusal.proofs.RuleLaws.{rule-then, rule-kept}
+use Rattle.refusal.proofs.RuleLaws.{rule-then, then-kept, rule-kept}
 use Rattle.refusal.specs.Answers.{Answer, accepted, refused, andThen, rule}
 use Rattle.fields.specs.Bytes.{byteAt, number16}
 use Rattle.fields.specs.Ranges.{inRange, allBelow}
@@ -20,16 +20,27 @@ use Rattle.table.specs.Tables.{TableValues, tableOf}
 use Rattle.table.specs.Rules.{lengthFits, versionFits, countsFit, sizeFits, elementsFit, downsFit, gaugesFit, tableRules}
 use Rattle.table.specs.Bounds.{TableBounds}
 
+-- what is made of the answer after the rules
+pub and-then :
+    {A B : Type 0} (bytes : List ℕ) (r : Answer A) (f : A → Answer B)
+    → andThen (tableRules bytes r) f ≡ tableRules bytes (andThen r f)
+unfolding tableRules
+and-then bytes r f = simp rule-then
+
 module _ {A : Type 0} (bytes : List ℕ) (rest : Answer A) where
   rules-then : andThen (tableRules {A = Unit} bytes (accepted tt)) (λ _. rest) ≡ tableRules bytes rest
-  unfolding tableRules
-  rules-then = simp rule-then
+  rules-then = and-then bytes (accepted tt) (λ _. rest)
 
   pub rules-accepted : tableRules {A = Unit} bytes (accepted tt) ≡ accepted tt → tableRules bytes rest ≡ rest
   rules-accepted h = rw (← rules-then, h)
 
   pub rules-refused : {k : ℕ} → tableRules {A = Unit} bytes (accepted tt) ≡ refused k → tableRules bytes rest ≡ refused k
   rules-refused h = rw (← rules-then, h)
+
+  -- rules before an accepted answer are kept
+  pub table-kept :
+      {a : A} → tableRules bytes rest ≡ accepted a → (tableRules {A = Unit} bytes (accepted tt) ≡ accepted tt) × (rest ≡ accepted a)
+  table-kept h = then-kept (tableRules bytes (accepted tt)) rest (rules-then ∙ h)
 
 -- rules 5 to 7
 abbrev pub rulesLeft : {A : Type 0} → TableValues → Answer A → Answer A

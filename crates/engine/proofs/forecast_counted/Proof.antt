@@ -5,7 +5,8 @@ use mathlib.Core.Path.{_≡_, sym, _∙_}
 use borrow.Author.Tests.{not-true, not-false}
 use Rattle.table.specs.InUse.{tableIn}
 use Rattle.state.specs.Rules.{stateFits}
-use Rattle.engine.proofs.EntryLaws.{unweighed, lent-refused, forecast-state-refused, lent-as, forecast-state-kept}
+use Rattle.network.proofs.LentLaws.{lent-refused, lent-as}
+use Rattle.engine.proofs.EntryLaws.{unweighed, forecast-state-refused, forecast-state-kept}
 use Rattle.engine.proofs.forecast_counted.Statement.{statement}
 use Rattle.engine.proofs.forecast_counted.Tie as tie
 

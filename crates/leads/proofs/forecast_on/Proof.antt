@@ -6,7 +6,7 @@ use native.Mathlib.Omega.{arith}
 use lib.ListN.{length}
 use Rattle.table.specs.InUse.{tableIn}
 use Rattle.leads.specs.Held.{answerSize, CopyReady}
-use Rattle.leads.proofs.AnswerLaws.{given, answer-size, space-size, space-refused, lent-by}
+use Rattle.leads.proofs.AnswerLaws.{given, answer-size, space-size, too-small, lent-by}
 use Rattle.leads.proofs.forecast_on.Statement.{statement}
 use Rattle.leads.proofs.forecast_on.Tie as tie
 
@@ -40,7 +40,7 @@ answer-numbers-requires : tie.Need-answer-numbers-requires
 answer-numbers-requires c κs = search needs
 
 returns : tie.Need-returns
-returns c = space-refused _ _ _ (omega (arith, c .if1 .taken, needed-is (c .before)))
+returns c = too-small _ _ _ (omega (arith, c .if1 .taken, needed-is (c .before)))
 
 space-numbers-requires : tie.Need-space-numbers-requires
 space-numbers-requires c κs = search needs
@@ -57,7 +57,7 @@ same-length c = search needs
 returns-2 : tie.Need-returns-2
 returns-2 c =
     let i = c .before .before .before in
-    lent-by (i .in-tiny .ensures) (needed-is (asked (i .before .before .before))) (c .counted-by .ensures)
+    lent-by _ _ (i .in-tiny .result) (i .in-tiny .ensures) (needed-is (asked (i .before .before .before))) (c .counted-by .ensures)
 
 in-small-requires : tie.Need-in-small-requires
 in-small-requires c κs = let t = c .before in ready (t .before .before) _ (t .if3 .taken)
@@ -71,7 +71,7 @@ same-length-2 c = search needs
 returns-3 : tie.Need-returns-3
 returns-3 c =
     let i = c .before .before .before in
-    lent-by (i .in-small .ensures) (needed-is (asked (i .before .before .before .before))) (c .counted-by2 .ensures)
+    lent-by _ _ (i .in-small .result) (i .in-small .ensures) (needed-is (asked (i .before .before .before .before))) (c .counted-by2 .ensures)
 
 in-medium-requires : tie.Need-in-medium-requires
 in-medium-requires c κs = let t = c .before in ready (t .before .before .before) _ (t .if4 .taken)
@@ -85,7 +85,7 @@ same-length-3 c = search needs
 returns-4 : tie.Need-returns-4
 returns-4 c =
     let i = c .before .before .before in
-    lent-by (i .in-medium .ensures) (needed-is (asked (i .before .before .before .before .before))) (c .counted-by3 .ensures)
+    lent-by _ _ (i .in-medium .result) (i .in-medium .ensures) (needed-is (asked (i .before .before .before .before .before))) (c .counted-by3 .ensures)
 
 in-large-requires : tie.Need-in-large-requires
 in-large-requires c κs = let n = c .before .before .before .before in ready n _ (n .space-numbers .ensures .1)
@@ -99,7 +99,7 @@ same-length-4 c = search needs
 returns-5 : tie.Need-returns-5
 returns-5 c =
     let i = c .before .before .before in
-    lent-by (i .in-large .ensures) (needed-is (asked (i .before .before .before .before .before))) (c .counted-by4 .ensures)
+    lent-by _ _ (i .in-large .result) (i .in-large .ensures) (needed-is (asked (i .before .before .before .before .before))) (c .counted-by4 .ensures)
 
 pub forecast-on-spec : {M : Type 1} → statement M
 forecast-on-spec =
