@@ -1,7 +1,7 @@
 -- The loops of a step: what they hold after i elements, one element more, and the end.
 use Prim.{Unit}
 use Prim.Native.Nat.{ℕ, zero, suc, _+_, _*_, _≤_, _<_}
-use mathlib.Core.Bool.{true, false}
+use mathlib.Core.Bool.{true, false, true≢false}
 use mathlib.Core.List.{List}
 use mathlib.Core.Logic.{⊎-elim}
 use mathlib.Core.Path.{_≡_, refl, sym, ap, subst, _∙_}
@@ -10,14 +10,9 @@ use native.Mathlib.Omega.{arith}
 use lib.ListN.{length, getD, replicate, length-replicate}
 use Rattle.sizes.specs.Sizes.{mostElements}
 use Rattle.refusal.specs.Answers.{accepted}
-use Rattle.refusal.specs.declared.Refusal.{Refusal}
 use Rattle.refusal.specs.declared.Refusal.the-variants.{AboveCeiling}
-use Rattle.refusal.specs.declared.Verdict.{Verdict}
-use Rattle.refusal.specs.declared.Verdict.the-variants.{Accepted, Refused}
-use Rattle.refusal.specs.Verdicts.{verdictAnswer}
-use Rattle.refusal.proofs.RuleLaws.{not-both}
+use Rattle.refusal.specs.declared.Verdict.the-variants.{Refused}
 use Rattle.units.specs.Units.{C, S}
-use Rattle.units.proofs.CeilingLaws.{same-accepted, same-refused}
 use Rattle.units.proofs.UnderLaws.{Under, under-accepted, refused-whole}
 use Rattle.method.specs.declared.Figures.{Figures}
 use Rattle.method.specs.Inflow.{noInflow, stepInflow, meanRainInflow}
@@ -40,12 +35,11 @@ use Rattle.record.specs.Decoded.{ObservationFits}
 use Rattle.record.proofs.RecordLaws.{rain-there, release-there, rain-read, release-read, inputs-fit}
 use Rattle.state.specs.States.{State, figuresOf}
 use Rattle.state.specs.Bounds.{StateBounds}
-use Rattle.state.proofs.AnswerLaws.{answered-accepted, answered-refused}
 use Rattle.element_step.specs.ElementStep.{released, ownOf}
 use Rattle.element_step.specs.Answers.{ownAt}
 use Rattle.element_step.specs.Bounds.{ElementInRange}
 use Rattle.walk.specs.Space.{Later}
-use Rattle.network.specs.Step.{weightOf, networkDown, newFigures, networkNumbers, stepOwn, observedIn, stepFigures, stepped, stepNumbers}
+use Rattle.network.specs.Step.{weightOf, networkDown, newFigures, networkNumbers, stepOwn, observedIn, stepFigures, stepNumbers}
 use Rattle.answer_space.specs.Places.{figuresAt, mostSum, FiguresBelow}
 use Rattle.one_lead.specs.declared.ElementInput.{ElementInput}
 use Rattle.one_lead.specs.Leads.{ownAtLead}
@@ -56,7 +50,7 @@ use Rattle.lead_walk.proofs.NetworkLaws.{Walked, walked-begin, walked-at, walke
 use Rattle.network_step.specs.declared.Passed.{Passed}
 use Rattle.network_step.specs.declared.StepInput.{StepInput}
 use Rattle.network_step.specs.Inputs.{inputOf, ownNumber, passedBy, stepInput}
-use Rattle.network_step.specs.Held.{Cleared, StepWorked, underVerdict, Stepped}
+use Rattle.network_step.specs.Held.{Cleared, StepWorked, underVerdict}
 
 -- the inflow of a step is that of one rain at lead 0
 inflow-same :
@@ -320,15 +314,17 @@ module _ (table bytes : List ℕ) (s : State) where
       pub stepping-refused :
           {d : ℕ} {after space : List ℕ}
           → ElementWorked (Refused AboveCeiling) c first (i + 1) d 1 before after
-          → StepWorked (Refused AboveCeiling) space t bytes s
+          → StepWorked false space t bytes s
+      unfolding underVerdict
       stepping-refused q =
           record {
             decided = refused-whole tt _ (stepNumbers t (inputAt t bytes) s) part (q .verdict);
-            held = λ a. absurd (not-both (ap verdictAnswer a) refl);
+            held = λ a. absurd (true≢false (sym a));
           }
 
   -- all elements are worked out
-  pub stepping-done : {i : ℕ} (space : List ℕ) → Stepping i space → i ≡ t .elements → StepWorked Accepted space t bytes s
+  pub stepping-done : {i : ℕ} (space : List ℕ) → Stepping i space → i ≡ t .elements → StepWorked true space t bytes s
+  unfolding underVerdict
   stepping-done {i} space h e =
       record {
         decided = under-accepted tt _ (numbers-done i e (h .under 0 (omega arith)));
@@ -337,15 +333,3 @@ module _ (table bytes : List ℕ) (s : State) where
     where
       place-is : (k : ℕ) → (k + 1) * 1 + 0 + 0 ≡ k + 1
       place-is k = omega arith
-
-  -- ---- the step's answer
-
-  module _ {v : Verdict} {space : List ℕ} (h : StepWorked v space t bytes s) where
-    pub step-accepted : {after : State} → v ≡ Accepted → after ≡ stepped t (inputAt t bytes) s → Stepped (underVerdict true) table bytes s after
-    unfolding underVerdict
-    step-accepted e n =
-        answered-accepted refl (same-accepted tt (stepped t (inputAt t bytes) s) _ (sym (ap verdictAnswer e) ∙ h .decided) .1) n
-
-    pub step-refused : {k : Refusal} {after : State} → v ≡ Refused k → after ≡ s → Stepped (underVerdict false) table bytes s after
-    unfolding underVerdict
-    step-refused e n = answered-refused refl (same-refused tt _ _ (sym (ap verdictAnswer e) ∙ h .decided)) n

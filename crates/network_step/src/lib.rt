@@ -1,32 +1,22 @@
-// A step of the whole network: all elements in one working space, and then the state.
+// A step of the whole network: all elements in one working space.
 ghost use mathlib.Core.Path.{_≡_};
-ghost use Prim.Native.Nat.{_≤_};
-ghost use Rattle.sizes.specs.Sizes.{smallElements};
 ghost use Rattle.table.specs.InUse.{tableIn};
 ghost use Rattle.network_step.specs.Inputs.{inputOf, stepInput, StepInputReady};
-ghost use Rattle.network_step.specs.Held.{StepReady, Cleared, StepWorked, underVerdict, Stepped};
+ghost use Rattle.network_step.specs.Held.{StepReady, Cleared, StepWorked};
 use element_weights::weight_of;
 use elements::Element;
 use elements::element_at;
 use elements::kind_at;
 use inflow::mean_rain_inflow;
 use method::FiguresAnswer;
-use next_state::write_state;
 use one_lead::ElementInput;
 use readings::gauge_here;
 use readings::observation_here;
 use record::Observation;
 use record::rain_at;
 use record::release_at;
-use refusal::Refusal;
-use refusal::Verdict;
-use sizes::OBSERVED_NUMBERS;
-use sizes::SMALL_ELEMENTS;
-use sizes::SMALL_STEP_SPACE;
 use sizes::STATE_NUMBERS;
-use sizes::STEP_SPACE;
 use state::figures_of;
-use table::Counts;
 
 // What a step works an element out of: its weight, its own number, lead 0, and what its gauge observed.
 fn input_of(element: Element, weight: u64, own: u64, observation: Observation) -> ElementInput
@@ -103,20 +93,21 @@ fn step_input(
     }
 }
 
-// All elements, one after the other, each as one lead, of number 0: their new figures stand in the working space. 16 where a number passes
-// the ceiling.
-fn work_step(
+// All elements, one after the other, each as one lead, of number 0: whether no number passes the ceiling; then their new figures stand in
+// the working space. (The table's counts are read where they stand: a struct is handed over through memory.)
+pub fn work_step(
     table: &[u8],
-    counts: Counts,
+    basins: usize,
     weights: &[u64],
     bytes: &[u8],
-    observed: &[u64; OBSERVED_NUMBERS],
+    observed: &[u64],
     state: &[u64; STATE_NUMBERS],
     space: &mut [u64],
-) -> Verdict
-    requires { ⌜ StepReady (now table) counts (now weights) (now bytes) (now observed) (now state) × Cleared (counts .elements) (now space) ⌝ }
+) -> bool
+    requires { ⌜ StepReady (now table) basins (now weights) (now bytes) (now observed) (now state) × Cleared (tableIn (now table) .elements) (now space) ⌝ }
     ensures { λ r. ⌜ StepWorked r (now (space .exit)) (tableIn (now (table .entry))) (now (bytes .entry)) (now (state .entry)) ⌝ }
 {
+    let counts = table::counts_of(table);
     let n = counts.elements;
     let mut passed = Passed { basins: 0, dams: 0 };
     let mut g: usize = 0;
@@ -124,7 +115,7 @@ fn work_step(
         let here = gauge_here(table, n, counts.gauges, g, i);
         let observation = observation_here(observed, here, g);
         let weight = weight_of(table, counts.step, weights, i);
-        let taken = step_input(table, i, weight, bytes, counts.basins, passed, observation);
+        let taken = step_input(table, i, weight, bytes, basins, passed, observation);
         let input = taken.input;
         let element = input.element;
         let first = figures_of(state, i);
@@ -135,102 +126,10 @@ fn work_step(
             first,
             &mut *space,
         ) else {
-            return Verdict::Refused(Refusal::AboveCeiling);
+            return false;
         };
         passed = taken.passed;
         g += here;
     }
-    Verdict::Accepted
-}
-
-// A step in a working space that is large enough, with nothing in it: whether no number passes the ceiling; only then is the state
-// written.
-fn step_in(
-    table: &[u8],
-    counts: Counts,
-    weights: &[u64],
-    bytes: &[u8],
-    observed: &[u64; OBSERVED_NUMBERS],
-    state: &mut [u64; STATE_NUMBERS],
-    space: &mut [u64],
-) -> bool
-    requires { ⌜ StepReady (now table) counts (now weights) (now bytes) (now observed) (now state) × Cleared (counts .elements) (now space) ⌝ }
-    ensures { λ r. ⌜ Stepped (underVerdict r) (now (table .entry)) (now (bytes .entry)) (now (state .entry)) (now (state .exit)) ⌝ }
-{
-    let verdict = work_step(
-        table,
-        counts,
-        weights,
-        bytes,
-        observed,
-        &*state,
-        &mut *space,
-    );
-    match verdict {
-        Verdict::Accepted => {
-            write_state(table, counts.elements, bytes, &*space, state);
-            true
-        }
-        Verdict::Refused(_) => false,
-    }
-}
-
-// The working space of a small river, and of any.
-fn step_small(
-    table: &[u8],
-    counts: Counts,
-    weights: &[u64],
-    bytes: &[u8],
-    observed: &[u64; OBSERVED_NUMBERS],
-    state: &mut [u64; STATE_NUMBERS],
-) -> bool
-    requires { ⌜ StepReady (now table) counts (now weights) (now bytes) (now observed) (now state) × (counts .elements ≤ smallElements) ⌝ }
-    ensures { λ r. ⌜ Stepped (underVerdict r) (now (table .entry)) (now (bytes .entry)) (now (state .entry)) (now (state .exit)) ⌝ }
-{
-    let mut space = [0u64; SMALL_STEP_SPACE];
-    step_in(table, counts, weights, bytes, observed, state, &mut space)
-}
-
-fn step_large(
-    table: &[u8],
-    counts: Counts,
-    weights: &[u64],
-    bytes: &[u8],
-    observed: &[u64; OBSERVED_NUMBERS],
-    state: &mut [u64; STATE_NUMBERS],
-) -> bool
-    requires { ⌜ StepReady (now table) counts (now weights) (now bytes) (now observed) (now state) ⌝ }
-    ensures { λ r. ⌜ Stepped (underVerdict r) (now (table .entry)) (now (bytes .entry)) (now (state .entry)) (now (state .exit)) ⌝ }
-{
-    let mut space = [0u64; STEP_SPACE];
-    step_in(table, counts, weights, bytes, observed, state, &mut space)
-}
-
-// 16 where a number passes the ceiling.
-fn under_verdict(under: bool) -> Verdict
-    ensures { λ r. ⌜ r ≡ underVerdict under ⌝ }
-{
-    if under {
-        return Verdict::Accepted;
-    }
-    Verdict::Refused(Refusal::AboveCeiling)
-}
-
-// A step on an accepted table with its counts, weights of its elements, an accepted record with what its gauges observed, and a state
-// that rule 8 accepts.
-pub fn step_on(
-    table: &[u8],
-    counts: Counts,
-    weights: &[u64],
-    bytes: &[u8],
-    observed: &[u64; OBSERVED_NUMBERS],
-    state: &mut [u64; STATE_NUMBERS],
-) -> Verdict
-    requires { ⌜ StepReady (now table) counts (now weights) (now bytes) (now observed) (now state) ⌝ }
-    ensures { λ r. ⌜ Stepped r (now (table .entry)) (now (bytes .entry)) (now (state .entry)) (now (state .exit)) ⌝ }
-{
-    if counts.elements <= SMALL_ELEMENTS {
-        return under_verdict(step_small(table, counts, weights, bytes, observed, state));
-    }
-    under_verdict(step_large(table, counts, weights, bytes, observed, state))
+    true
 }

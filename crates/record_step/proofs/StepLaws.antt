@@ -1,46 +1,127 @@
--- Laws of a step's rules in checking order, after rule 8.
+-- Laws of a step by a record: its rules in checking order after rule 8, and the state that it leaves.
 use Prim.{Unit}
-use Prim.Native.Nat.{ℕ}
-use mathlib.Core.Bool.{true, false}
+use Prim.Native.Nat.{ℕ, _*_, _≤_}
+use mathlib.Core.Bool.{Bool, true, false}
 use mathlib.Core.List.{List}
-use mathlib.Core.Path.{_≡_, sym, ap, _∙_}
+use mathlib.Core.Path.{_≡_, refl, sym, ap, _∙_}
+use native.Mathlib.Omega.{arith}
+use lib.ListN.{length, replicate, length-replicate}
+use Rattle.sizes.specs.Sizes.{smallElements, smallObservedNumbers, observedNumbers, stateNumbers}
 use Rattle.refusal.specs.Refusals.{number}
 use Rattle.refusal.specs.Answers.{accepted, refused}
+use Rattle.refusal.proofs.RuleLaws.{not-both}
 use Rattle.refusal.specs.declared.Refusal.{Refusal}
+use Rattle.refusal.specs.declared.Refusal.the-variants.{StepLimit, AboveCeiling}
 use Rattle.refusal.specs.declared.Verdict.{Verdict}
 use Rattle.refusal.specs.declared.Verdict.the-variants.{Accepted, Refused}
 use Rattle.refusal.specs.Verdicts.{verdictAnswer}
 use Rattle.units.specs.Ceiling.{underCeiling}
+use Rattle.table.specs.declared.Counts.{Counts}
 use Rattle.table.specs.Tables.{TableValues}
+use Rattle.table.specs.Bounds.{Counted}
+use Rattle.table.specs.InUse.{tableIn}
 use Rattle.record.specs.Records.{inputAt}
 use Rattle.record.specs.Rules.{recordRules}
 use Rattle.record.specs.Decoded.{RecordRead}
-use Rattle.record.proofs.RecordLaws as record-laws
+use Rattle.record.proofs.GaugeOrderLaws.{gauges-few}
 use Rattle.state.specs.States.{State}
 use Rattle.state.specs.Rules.{stateFits, stepsLeft}
+use Rattle.state.specs.Answers.{Answered}
+use Rattle.state.proofs.AnswerLaws.{answered-accepted, answered-refused}
 use Rattle.network.specs.Step.{stepped, stepNumbers}
-use Rattle.entries.specs.Entries.{stepOnAnswer}
+use Rattle.network_step.specs.Held.{underVerdict, StepWorked}
+use Rattle.entries.specs.Entries.{stepRules, stepOnAnswer}
+use Rattle.entries.proofs.StepRuleLaws as step-rules
+use Rattle.record_step.specs.Judged.{StepJudged, RecordWorked}
 
-module _ (t : TableValues) (bytes : List ℕ) (s : State) (h : stateFits t s ≡ true) where
-  pub limit-refused : stepsLeft s ≡ false → stepOnAnswer t bytes s ≡ refused 9
+-- ---- the rules before 16
+
+module _ (t : TableValues) (bytes : List ℕ) (s : State) (h : stateFits t s ≡ true) (whole : length s ≡ stateNumbers) {observed : List ℕ} where
+  -- 9
+  pub limit-judged : stepsLeft s ≡ false → StepJudged t bytes s (Refused StepLimit) observed
+  unfolding stepRules
+  limit-judged l =
+      record {
+        decided = rw (h, l);
+        kept = λ e. absurd (not-both (ap verdictAnswer e) refl);
+        held = λ e. absurd (not-both (ap verdictAnswer e) refl);
+        whole = whole;
+      }
+
+  -- the record's own
+  pub record-judged : {v : Verdict} → stepsLeft s ≡ true → RecordRead t bytes v observed → StepJudged t bytes s v observed
+  unfolding stepRules
+  record-judged {v} l r = record { decided = rw (h, l) (r .decided); kept = kept; held = λ e. r .held (kept e); whole = whole }
+    where
+      kept : v ≡ Accepted → recordRules {A = Unit} t bytes (accepted tt) ≡ accepted tt
+      kept e = sym (r .decided) ∙ ap verdictAnswer e
+
+-- what the verdict says of them
+module _ (t : TableValues) (bytes : List ℕ) (s : State) {v : Verdict} {observed : List ℕ} (h : StepJudged t bytes s v observed) where
+  pub judged-accepted : v ≡ Accepted → stepRules {A = Unit} t bytes s (accepted tt) ≡ accepted tt
+  judged-accepted e = sym (h .decided) ∙ ap verdictAnswer e
+
+  pub judged-refused : {k : Refusal} → v ≡ Refused k → stepRules {A = Unit} t bytes s (accepted tt) ≡ refused (number k)
+  judged-refused e = sym (h .decided) ∙ ap verdictAnswer e
+
+  -- ---- all rules
+
+  -- a refusal before 16
+  pub refused-before : {k : Refusal} {space : List ℕ} → v ≡ Refused k → RecordWorked v space t bytes s
+  refused-before e =
+      record {
+        decided = ap verdictAnswer e ∙ sym (step-rules.step-refused t bytes s _ (judged-refused e));
+        kept = λ a. absurd (not-both (ap verdictAnswer a) (ap verdictAnswer e));
+        held = λ a. absurd (not-both (ap verdictAnswer a) (ap verdictAnswer e));
+      }
+
+  module _ (e : v ≡ Accepted) {under : Bool} {space : List ℕ} (w : StepWorked under space t bytes s) where
+    after-rules : verdictAnswer (underVerdict under) ≡ stepRules t bytes s (underCeiling (stepNumbers t (inputAt t bytes) s) tt)
+    after-rules = w .decided ∙ sym (step-rules.step-accepted t bytes s _ (judged-accepted e))
+
+    -- 16
+    pub refused-above : under ≡ false → RecordWorked (Refused AboveCeiling) space t bytes s
+    unfolding underVerdict
+    refused-above f =
+        record {
+          decided = ap (λ (u : Bool). verdictAnswer (underVerdict u)) (sym f) ∙ after-rules;
+          kept = λ a. absurd (not-both (ap verdictAnswer a) refl);
+          held = λ a. absurd (not-both (ap verdictAnswer a) refl);
+        }
+
+    pub all-accepted : under ≡ true → RecordWorked Accepted space t bytes s
+    unfolding underVerdict
+    all-accepted f =
+        record {
+          decided = ap (λ (u : Bool). verdictAnswer (underVerdict u)) (sym f) ∙ after-rules;
+          kept = λ _. h .kept e;
+          held = λ _. w .held f;
+        }
+
+-- ---- the state
+
+module _ (t : TableValues) (bytes : List ℕ) (s : State) {v : Verdict} {space : List ℕ} (h : RecordWorked v space t bytes s) where
+  pub written-refused : {k : Refusal} → v ≡ Refused k → Answered v s (stepOnAnswer t bytes s) s
   unfolding stepOnAnswer
-  limit-refused l = rw (h, l)
+  written-refused e = answered-refused e (step-rules.all-refused t bytes s _ _ (sym (h .decided) ∙ ap verdictAnswer e)) refl
 
-  module _ (l : stepsLeft s ≡ true) where
-    pub record-refused : {k : ℕ} → recordRules {A = Unit} t bytes (accepted tt) ≡ refused k → stepOnAnswer t bytes s ≡ refused k
-    unfolding stepOnAnswer
-    record-refused r = rw (h, l) (record-laws.rules-refused t bytes _ r)
+  pub written-accepted : {after : State} → v ≡ Accepted → after ≡ stepped t (inputAt t bytes) s → Answered Accepted after (stepOnAnswer t bytes s) s
+  unfolding stepOnAnswer
+  written-accepted e a = answered-accepted refl (step-rules.all-accepted t bytes s _ _ (sym (h .decided) ∙ ap verdictAnswer e)) a
 
-    pub record-accepted :
-        recordRules {A = Unit} t bytes (accepted tt) ≡ accepted tt
-        → stepOnAnswer t bytes s ≡ underCeiling (stepNumbers t (inputAt t bytes) s) (stepped t (inputAt t bytes) s)
-    unfolding stepOnAnswer
-    record-accepted r = rw (h, l) (record-laws.rules-accepted t bytes _ r)
+-- ---- the spaces
 
--- what the verdict on a record says of its rules
-module _ (t : TableValues) (bytes : List ℕ) {v : Verdict} {numbers : List ℕ} (h : RecordRead t bytes v numbers) where
-  pub record-kept : v ≡ Accepted → recordRules {A = Unit} t bytes (accepted tt) ≡ accepted tt
-  record-kept e = sym (h .decided) ∙ ap verdictAnswer e
+-- a small river has no more gauges than elements
+pub small-room :
+    {table : List ℕ} {counts : Counts}
+    → Counted table counts
+    → counts .elements ≤ smallElements
+    → 2 * tableIn table .gauges ≤ length {A = ℕ} (replicate smallObservedNumbers 0)
+small-room {table} c l =
+    rw (length-replicate {A = ℕ} smallObservedNumbers 0) (omega (arith, gauges-few (tableIn table) (c .table .bounds), c .held .elements, l))
 
-  pub record-verdict : {k : Refusal} → v ≡ Refused k → recordRules {A = Unit} t bytes (accepted tt) ≡ refused (number k)
-  record-verdict e = sym (h .decided) ∙ ap verdictAnswer e
+pub large-room :
+    {table : List ℕ} {counts : Counts}
+    → Counted table counts
+    → 2 * tableIn table .gauges ≤ length {A = ℕ} (replicate observedNumbers 0)
+large-room c = rw (length-replicate {A = ℕ} observedNumbers 0) (omega (arith, c .table .bounds .gaugesMost))

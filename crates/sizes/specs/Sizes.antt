@@ -30,6 +30,10 @@ observedNumbers = 2 * mostGauges
 abbrev pub smallElements : ℕ
 smallElements = 4
 
+-- a small river has no more gauges than elements
+abbrev pub smallObservedNumbers : ℕ
+smallObservedNumbers = 2 * smallElements
+
 abbrev pub smallStepSpace : ℕ
 smallStepSpace = 4 * (smallElements + 1)
 

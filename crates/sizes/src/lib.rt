@@ -22,6 +22,9 @@ pub const OBSERVED_NUMBERS: usize = 2 * MOST_GAUGES;
 // The numbers of the working space of a step, for a small river and for any: four figures of each element, and of what leaves the river.
 pub const SMALL_ELEMENTS: usize = 4;
 
+// What the gauges of a small river observed: it has no more gauges than elements.
+pub const SMALL_OBSERVED_NUMBERS: usize = 2 * SMALL_ELEMENTS;
+
 pub const SMALL_STEP_SPACE: usize = 4 * (SMALL_ELEMENTS + 1);
 
 pub const STEP_SPACE: usize = 4 * (MOST_ELEMENTS + 1);

@@ -2,7 +2,8 @@
 // 8 asks of a place, and rule 9.
 ghost use mathlib.Core.Path.{_≡_};
 ghost use Prim.Native.Nat.{_<_};
-ghost use Rattle.sizes.specs.Sizes.{mostElements};
+ghost use lib.ListN.{length};
+ghost use Rattle.sizes.specs.Sizes.{mostElements, stateNumbers};
 ghost use Rattle.state.specs.States.{figuresOf, rainsOf, placeOf, putFigures, putRains};
 ghost use Rattle.state.specs.Rules.{figuresFit, rainsFit, placeFits, stepsLeft};
 use method::Figures;
@@ -127,9 +128,10 @@ pub fn place_fits(state: &[u64; STATE_NUMBERS], i: usize, kind: u64) -> bool
     }
 }
 
-// Rule 9.
+// Rule 9; and a state has all its numbers.
 pub fn steps_left(state: &[u64; STATE_NUMBERS]) -> bool
-    ensures { λ r. ⌜ r ≡ stepsLeft (now (state .entry)) ⌝ }
+    ensures { λ r. ⌜ (r ≡ stepsLeft (now (state .entry))) × (length (now (state .entry)) ≡ stateNumbers) ⌝ }
 {
-    state[1] != 10_000
+    let numbers: &[u64] = state;
+    numbers[1] != 10_000
 }

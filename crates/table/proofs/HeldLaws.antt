@@ -27,12 +27,17 @@ use Rattle.refusal.specs.declared.Verdict.the-variants.{Accepted, Refused}
 use Rattle.refusal.specs.Verdicts.{verdictAnswer}
 use Rattle.table.specs.Tables.{tableOf}
 use Rattle.table.specs.Rules.{lengthFits, sizeFits, tableRules}
-use Rattle.table.specs.Decoded.{TableRead}
+use Rattle.table.specs.Decoded.{CountsHeld, TableRead}
 use Rattle.table.specs.Bounds.{AcceptedTable, Counted, CountedTable}
 use Rattle.table.specs.InUse.{inUse, tableIn}
 use Rattle.table.proofs.InUseLaws.{element-read, gauge-read, bounds-in-use}
 use Rattle.table.proofs.TableLaws.{rules-kept, table-bounds}
 use Rattle.table.proofs.CountLaws.{count-in-use}
+
+-- the header's counts are those of the places in use
+pub counts-in-use : (bytes : List ℕ) {counts : Counts} → CountsHeld counts (tableOf bytes) → CountsHeld counts (tableIn bytes)
+unfolding tableIn inUse
+counts-in-use bytes h = record { step = h .step; leads = h .leads; elements = h .elements; gauges = h .gauges }
 
 -- rules 1 and 4 together: the bytes are those of N elements and M gauges
 module _ (bytes : List ℕ) where
@@ -107,12 +112,11 @@ module _ (bytes : List ℕ) (r : TableAnswer) (h : TableRead bytes r) where
   unfolding tableIn inUse
   table-accepted e =
       let kept = sym (h .verdict) ∙ ap verdictAnswer e in
-      let held = h .counts kept in
       record {
         kept = kept;
         counted = record {
           table = accepted-table bytes kept;
-          held = record { step = held .step; leads = held .leads; elements = held .elements; gauges = held .gauges };
+          held = counts-in-use bytes (h .counts kept);
           basins = h .basins kept ∙ count-in-use basinOf bytes;
           dams = h .dams kept ∙ count-in-use damOf bytes;
         };

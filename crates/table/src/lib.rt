@@ -5,6 +5,9 @@ ghost use lib.ListN.{length};
 ghost use Rattle.table.specs.Tables.{tableOf};
 ghost use Rattle.table.specs.Rules.{lengthFits, versionFits, countsFit, sizeFits};
 ghost use Rattle.table.specs.Decoded.{CountsHeld};
+ghost use Rattle.table.specs.KindCounts.{basinCount, damCount};
+ghost use Rattle.table.specs.InUse.{tableIn};
+ghost use Rattle.table.specs.Bounds.{AcceptedTable, Counted};
 use fields::bytes::whole16;
 use fields::bytes::whole32;
 use fields::bytes::wide;
@@ -80,5 +83,21 @@ pub fn counts_of(table: &[u8]) -> Counts
         gauges: wide(table[9]) as usize,
         basins: 0,
         dams: 0,
+    }
+}
+
+// The counts of an accepted table with so many basins and dams.
+pub fn counts_with(table: &[u8], basins: usize, dams: usize) -> Counts
+    requires { ⌜ AcceptedTable (now table) × ((basins ≡ basinCount (tableIn (now table))) × (dams ≡ damCount (tableIn (now table)))) ⌝ }
+    ensures { λ r. ⌜ Counted (now (table .entry)) r ⌝ }
+{
+    let header = counts_of(table);
+    Counts {
+        step: header.step,
+        leads: header.leads,
+        elements: header.elements,
+        gauges: header.gauges,
+        basins,
+        dams,
     }
 }

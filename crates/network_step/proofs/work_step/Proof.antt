@@ -8,11 +8,12 @@ use Rattle.sizes.specs.Sizes.{mostElements}
 use Rattle.elements.specs.declared.Element.{Element}
 use Rattle.elements.specs.Elements.{elementAt}
 use Rattle.table.specs.InUse.{tableIn}
-use Rattle.table.proofs.HeldLaws.{element-there, element-bounds, counted-table}
+use Rattle.table.specs.Decoded.{CountsHeld}
+use Rattle.table.proofs.HeldLaws.{counts-in-use, element-there, element-bounds}
 use Rattle.record.specs.Records.{inputObservation}
 use Rattle.record.specs.GaugeOrder.{gaugesBefore}
 use Rattle.record.proofs.RecordLaws.{kind-read}
-use Rattle.record.proofs.GaugeOrderLaws.{gauges-none, gauges-more, gauges-most, gauge-room, observation-found}
+use Rattle.record.proofs.GaugeOrderLaws.{gauges-none, gauges-more, gauges-most, here-used, observation-found}
 use Rattle.one_lead.specs.Worked.{stepLead, LeadReady}
 use Rattle.lead_walk.proofs.LeadsLaws.{work-step-refused, work-step-done}
 use Rattle.network_step.specs.declared.StepInput.{StepInput}
@@ -22,24 +23,28 @@ use Rattle.network_step.proofs.work_step.Statement.{statement}
 use Rattle.network_step.proofs.work_step.Tie as tie
 
 abbrev Inv-loop : tie.InvT-loop
-Inv-loop table counts weights bytes observed state space₀ n passed₀ g₀ i₀ space passed g i =
+Inv-loop table basins weights bytes observed state space₀ counts n passed₀ g₀ i₀ space passed g i =
     (i ≤ n)
     × ((length space ≡ length space₀)
     × (PassedBefore (tableIn table) i passed × ((g ≡ gaugesBefore (tableIn table) i) × Stepping table bytes state i space)))
 
 abbrev μ-loop : tie.MeasureT-loop
-μ-loop table counts weights bytes observed state space₀ n passed₀ g₀ i₀ space passed g i = n - i
+μ-loop table basins weights bytes observed state space₀ counts n passed₀ g₀ i₀ space passed g i = n - i
 
 abbrev start : tie.In-loop Inv-loop μ-loop → tie.Start Inv-loop μ-loop
-start c = c .before .before .before .before .before .before
+start c = c .before .before .before .before .before .before .before .before
+
+-- the header's counts
+header : (c : tie.In-loop Inv-loop μ-loop) → CountsHeld (c .before .before .counts-of .result) (tableIn (start c .args .table .now))
+header c = counts-in-use _ (c .before .before .counts-of .ensures)
 
 -- an element of the loop is in use
 module _ (c : tie.In-loop Inv-loop μ-loop) where
   used : c .before .loop .i < tableIn (start c .args .table .now) .elements
-  used = omega (arith, c .loop-test .taken, start c .pre .0 .counted .held .elements)
+  used = omega (arith, c .loop-test .taken, header c .elements)
 
   within : c .before .loop .i < mostElements
-  within = omega (arith, used, start c .pre .0 .counted .table .bounds .elementsMost)
+  within = omega (arith, used, start c .pre .0 .accepts .bounds .elementsMost)
 
   counted : PassedBefore (tableIn (start c .args .table .now)) (c .before .loop .i) (c .before .loop .passed)
   counted = c .before .loop .inv .1 .1 .0
@@ -53,7 +58,7 @@ seen c =
     let l = c .before .before in
     let p = start l .pre .0 in
     c .observation-here .ensures
-    ∙ observation-found _ (p .counted .table .bounds) _ (p .held) _ (l .before .loop .inv .1 .1 .1 .0) (c .before .gauge-here .ensures .0)
+    ∙ observation-found _ (p .accepts .bounds) _ (p .held) _ (l .before .loop .inv .1 .1 .1 .0) (c .before .gauge-here .ensures .0)
 
 -- its turn, from later points
 abbrev observation-point : tie.After-step-input Inv-loop μ-loop → tie.After-observation-here Inv-loop μ-loop
@@ -96,38 +101,44 @@ ready c =
     let p = start l .pre in
     let w = i .before .weight-of .ensures in
     let inv = l .before .loop .inv .1 in
-    step-ready _ _ _ _ (used l) (w .0) (p .0 .counted .basins) (counted l) (seen (observation-point i)) _ (p .0 .counted .table) (p .0 .kept) (p .0 .state) (w .1)
+    step-ready _ _ _ _ (used l) (w .0) (p .0 .counted) (counted l) (seen (observation-point i)) _ (p .0 .accepts) (p .0 .kept) (p .0 .state) (w .1)
     (ap (λ (x : StepInput). x .input) (i .step-input .ensures)) (c .before .figures-of .ensures) (inv .1 .1 .1)
-    (omega (arith, p .1 .room, p .0 .counted .held .elements, inv .0))
+    (omega (arith, p .1 .room, inv .0))
+
+counts-of-requires : tie.Need-counts-of-requires Inv-loop μ-loop
+counts-of-requires c κs = search needs
 
 loop-holds : tie.Need-loop-holds Inv-loop μ-loop
 loop-holds c =
-    let s = c .before .before .before .before in
+    let s = c .before .before .before .before .before .before in
     (omega arith, (refl, (passed-none _, (gauges-none _, stepping-begin _ _ _ _ (s .pre .1 .none)))))
 
 gauge-here-requires : tie.Need-gauge-here-requires Inv-loop μ-loop
-gauge-here-requires c κs = (counted-table _ _ (start c .pre .0 .counted), c .loop-test .taken)
+gauge-here-requires c κs =
+    let h = header c in (record { table = start c .pre .0 .accepts; elements = h .elements; gauges = h .gauges }, c .loop-test .taken)
 
 observation-here-requires : tie.Need-observation-here-requires Inv-loop μ-loop
-observation-here-requires c κs = let l = c .before in gauge-room _ (start l .pre .0 .counted .table .bounds) _ _ (c .gauge-here .ensures .0)
+observation-here-requires c κs =
+    let l = c .before in
+    λ e. omega (arith, here-used _ _ _ (c .gauge-here .ensures .0) e, start l .pre .0 .room)
 
 weight-of-requires : tie.Need-weight-of-requires Inv-loop μ-loop
 weight-of-requires c κs =
     let l = c .before .before in
     let p = start l .pre .0 in
-    record { element = record { table = p .counted .table; step = p .counted .held .step; used = used l }; weights = p .weights }
+    record { element = record { table = p .accepts; step = header l .step; used = used l }; weights = p .weights }
 
 step-input-requires : tie.Need-step-input-requires Inv-loop μ-loop
 step-input-requires c κs =
     let l = c .before .before .before in
     let p = start l .pre .0 in
-    let a = p .counted .table in
+    let a = p .accepts in
     let e = element-bounds _ a (used l) in
     record {
       there = element-there _ a (used l);
       rain = rain-room _ _ (start l .args .state .now) a (p .kept) _ (used l) (counted l .basins);
       rainMost = rain-most _ _ (start l .args .state .now) a (p .kept) _ (used l) (counted l .basins);
-      release = release-room _ _ (start l .args .state .now) a (p .kept) _ (used l) (p .counted .basins) (counted l .dams);
+      release = release-room _ _ (start l .args .state .now) a (p .kept) _ (used l) (p .counted) (counted l .dams);
       few = passed-few _ _ (counted l);
       area = e .area;
       runoff = e .runoff;
@@ -158,7 +169,7 @@ returns c =
     let e = c .before .before .before .before in
     let i = input-point (e .before) in
     let l = turn i in
-    stepping-refused _ _ _ _ (used l) (i .before .weight-of .ensures .0) (start l .pre .0 .counted .basins) (counted l) (seen (observation-point i)) _ (l .before .loop .inv .1 .1 .1 .1)
+    stepping-refused _ _ _ _ (used l) (i .before .weight-of .ensures .0) (start l .pre .0 .counted) (counted l) (seen (observation-point i)) _ (l .before .loop .inv .1 .1 .1 .1)
     _ (ap (λ (x : StepInput). x .input) (i .step-input .ensures)) _ (e .before .before .figures-of .ensures)
     (work-step-refused _ _ _ _ _ _ (lead-zero i) (ready (e .before)) _ (e .work-step .ensures) (c .enum-told2 .given .1))
 
@@ -169,7 +180,7 @@ add-g : tie.Need-add-g Inv-loop μ-loop
 add-g c =
     let l = turn (input-point (worked c .before)) in
     let g = observation-point (input-point (worked c .before)) .before in
-    omega (arith, gauges-most (tableIn (start l .args .table .now)) (l .before .loop .i), l .before .loop .inv .1 .1 .1 .0, start l .pre .0 .counted .table .bounds .gaugesMost, g .gauge-here .ensures .1)
+    omega (arith, gauges-most (tableIn (start l .args .table .now)) (l .before .loop .i), l .before .loop .inv .1 .1 .1 .0, start l .pre .0 .accepts .bounds .gaugesMost, g .gauge-here .ensures .1)
 
 add-i : tie.Need-add-i Inv-loop μ-loop
 add-i c = omega (arith, within (turn (input-point (worked c .before))))
@@ -183,7 +194,7 @@ loop-again c =
     let i = input-point (e .before) in
     let l = turn i in
     let inv = l .before .loop .inv .1 in
-    let p = start l .pre .0 .counted in
+    let p = start l .pre .0 in
     let g = observation-point i .before in (
       omega (arith, l .loop-test .taken),
       (
@@ -192,10 +203,10 @@ loop-again c =
           passed-on i,
           (
             gauges-more _ _ (inv .1 .1 .0) (g .gauge-here .ensures .0),
-            stepping-again _ _ _ _ (used l) (i .before .weight-of .ensures .0) (p .basins) (counted l) (seen (observation-point i)) _ (inv .1 .1 .1)
+            stepping-again _ _ _ _ (used l) (i .before .weight-of .ensures .0) (p .counted) (counted l) (seen (observation-point i)) _ (inv .1 .1 .1)
                 _ (ap (λ (x : StepInput). x .input) (i .step-input .ensures)) _ (e .before .before .figures-of .ensures) _ (ap (λ (x : Element). x .down) (element-taken i))
                 (work-step-done _ _ _ _ _ _ (lead-zero i) (ready (e .before)) _ (e .work-step .ensures) (c .before .enum-told .given .1))
-                (element-bounds _ (p .table) (used l) .later),
+                (element-bounds _ (p .accepts) (used l) .later),
           ),
         ),
       ),
@@ -206,8 +217,7 @@ same-length-2 c = search needs
 
 returns-2 : tie.Need-returns-2 Inv-loop μ-loop
 returns-2 c =
-    let s = c .before .before .before .before .before .before in
-    stepping-done _ _ _ _ (c .before .loop .inv .1 .1 .1 .1) (omega (arith, s .pre .0 .counted .held .elements))
+    stepping-done _ _ _ _ (c .before .loop .inv .1 .1 .1 .1) (omega (arith, counts-in-use _ (c .before .before .counts-of .ensures) .elements))
 
 pub work-step-spec : {M : Type 1} → statement M
 work-step-spec =
@@ -215,6 +225,7 @@ work-step-spec =
     (tie.spec
     Inv-loop
     μ-loop
+    counts-of-requires
     loop-holds
     gauge-here-requires
     observation-here-requires

@@ -5,12 +5,12 @@ use Rattle.state.specs.Rules.{stepsLeft}
 use Rattle.state.proofs.steps_left.Statement.{statement}
 use Rattle.state.proofs.steps_left.Tie as tie
 
-element-copy-out-result : tie.Need-element-copy-out-result
-element-copy-out-result c = search needs
+shared-slice-read-result : tie.Need-shared-slice-read-result
+shared-slice-read-result c = search needs
 
 returns : tie.Need-returns
 unfolding stepsLeft
-returns c = refl
+returns c = (refl, search needs)
 
 pub steps-left-spec : {M : Type 1} → statement M
-steps-left-spec = tie.close (tie.spec element-copy-out-result returns)
+steps-left-spec = tie.close (tie.spec shared-slice-read-result returns)

@@ -1,0 +1,37 @@
+-- `write_accepted` meets its contract.
+use borrow.Author.Needs.{needs}
+use Rattle.state.proofs.BoundsLaws.{state-bounds}
+use Rattle.record_step.proofs.StepLaws.{written-accepted, written-refused}
+use Rattle.record_step.proofs.write_accepted.Statement.{statement}
+use Rattle.record_step.proofs.write_accepted.Tie as tie
+
+enum-told : tie.Need-enum-told
+enum-told c = search needs
+
+enum-told-2 : tie.Need-enum-told-2
+enum-told-2 c = search needs
+
+returns : tie.Need-returns
+returns c = written-refused _ _ _ (c .before .before .before .before .before .pre .worked) (c .enum-told2 .given .1)
+
+write-state-requires : tie.Need-write-state-requires
+write-state-requires c κs =
+    let known = c .before in
+    let p = known .before .before .before .before .before .pre in
+    let accepted = known .enum-told .given .1 in
+    record {
+      fits = p .accepts;
+      elements = p .elements;
+      kept = p .worked .kept accepted;
+      room = p .room;
+      state = state-bounds _ _ (p .fits);
+      held = p .worked .held accepted;
+    }
+
+returns-2 : tie.Need-returns-2
+returns-2 c =
+    let known = c .before .before in
+    written-accepted _ _ _ (known .before .before .before .before .before .pre .worked) (known .enum-told .given .1) (c .write-state .ensures)
+
+pub write-accepted-spec : {M : Type 1} → statement M
+write-accepted-spec = tie.close (tie.spec enum-told enum-told-2 returns write-state-requires returns-2)
