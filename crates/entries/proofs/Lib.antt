@@ -1,2 +1,4 @@
 pub mod NextLaws
 pub mod ForecastLaws
+pub mod StepRuleLaws
+pub mod TrialLaws

@@ -8,6 +8,7 @@ ghost use Rattle.table.specs.Rules.{tableRules};
 ghost use Rattle.rating.specs.Looks.{lookOf};
 ghost use Rattle.network.specs.Lent.{countAnswer};
 ghost use Rattle.entries.specs.Entries.{startAnswer, stepAnswer, forecastAnswer};
+ghost use Rattle.entries.specs.Trials.{trialAnswer};
 ghost use Rattle.gauge_look.specs.GaugeLooks.{ratingAnswer};
 ghost use Rattle.river.specs.Held.{CountsSmall, PlanAsked};
 ghost use Rattle.river.specs.Replies.{version, refusalOf, noPlan, planReply, writtenReply, ratingReply, StateReplied, ForecastReplied};
@@ -179,6 +180,20 @@ pub extern "C" fn river_forecast(
     ensures { λ r. ⌜ ForecastReplied r (now (out .exit)) (forecastAnswer (now (table .entry)) (now (state .entry)) (length (now (out .entry)))) (now (out .entry)) ⌝ }
 {
     let answer = engine::forecast(table, state, &mut *out);
+    written_reply(answer)
+}
+
+// A trial of a step on the bytes of a table and of a record, into lent space.
+#[no_mangle]
+pub extern "C" fn river_trial(
+    table: &[u8],
+    bytes: &[u8],
+    state: &[u64; STATE_NUMBERS],
+    out: &mut [u64],
+) -> Written
+    ensures { λ r. ⌜ ForecastReplied r (now (out .exit)) (trialAnswer (now (table .entry)) (now (bytes .entry)) (now (state .entry)) (length (now (out .entry)))) (now (out .entry)) ⌝ }
+{
+    let answer = trial::trial(table, bytes, state, &mut *out);
     written_reply(answer)
 }
 
