@@ -6,3 +6,4 @@ pub mod TogetherLaws
 pub mod HandedLaws
 pub mod CallLaws
 pub mod Theorem
+pub mod TrialLaws

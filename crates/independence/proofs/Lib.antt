@@ -1,0 +1,4 @@
+pub mod InputLaws
+pub mod WalkLaws
+pub mod ShownLaws
+pub mod Theorem

@@ -1,0 +1,1 @@
+// Two trials that differ in one gauge's reading: definitions and the theorem.
