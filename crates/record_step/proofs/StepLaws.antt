@@ -28,11 +28,12 @@ use Rattle.state.specs.States.{State}
 use Rattle.state.specs.Rules.{stateFits, stepsLeft}
 use Rattle.state.specs.Answers.{Answered}
 use Rattle.state.proofs.AnswerLaws.{answered-accepted, answered-refused}
+use Rattle.state.proofs.BoundsLaws.{state-bounds}
 use Rattle.network.specs.Step.{stepped, stepNumbers}
-use Rattle.network_step.specs.Held.{underVerdict, StepWorked}
+use Rattle.network_step.specs.Held.{StepReady, underVerdict, StepWorked}
 use Rattle.entries.specs.Entries.{stepRules, stepOnAnswer}
 use Rattle.entries.proofs.StepRuleLaws as step-rules
-use Rattle.record_step.specs.Judged.{StepJudged, RecordWorked}
+use Rattle.record_step.specs.Judged.{JudgeReady, StepJudged, RecordGiven, RecordWorked}
 
 -- ---- the rules before 16
 
@@ -108,6 +109,31 @@ module _ (t : TableValues) (bytes : List ℕ) (s : State) {v : Verdict} {space :
   pub written-accepted : {after : State} → v ≡ Accepted → after ≡ stepped t (inputAt t bytes) s → Answered Accepted after (stepOnAnswer t bytes s) s
   unfolding stepOnAnswer
   written-accepted e a = answered-accepted refl (step-rules.all-accepted t bytes s _ _ (sym (h .decided) ∙ ap verdictAnswer e)) a
+
+-- ---- what is given to each part
+
+module _ {table : List ℕ} {counts : Counts} {weight observed : List ℕ} {s : State} (p : RecordGiven table counts weight s observed) where
+  pub judge-ready : JudgeReady table (counts .basins) (counts .dams) s observed
+  judge-ready =
+      let known = p .weighed .counted in
+      record { counted = (known .table, (known .basins, known .dams)); fits = p .fits; room = p .room }
+
+  pub work-ready :
+      {bytes after : List ℕ} {v : Verdict}
+      → StepJudged (tableIn table) bytes s v after
+      → length after ≡ length observed
+      → v ≡ Accepted
+      → StepReady table (counts .basins) weight bytes after s
+  work-ready j same e =
+      record {
+        accepts = p .weighed .counted .table;
+        counted = p .weighed .counted .basins;
+        weights = p .weighed .weights;
+        kept = j .kept e;
+        held = j .held e;
+        room = omega (arith, same, p .room);
+        state = state-bounds _ _ (p .fits);
+      }
 
 -- ---- the spaces
 

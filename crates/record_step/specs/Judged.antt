@@ -40,7 +40,7 @@ pub record StepJudged (t : TableValues) (bytes : List ℕ) (s : State) (verdict 
   pub whole : length s ≡ stateNumbers
 
 -- an accepted table with its counts and weights of its elements, a state that rule 8 accepts, and two numbers a gauge
-pub record RecordReady (table : List ℕ) (counts : Counts) (weight : List ℕ) (s : State) (observed : List ℕ) : Type 0 where
+pub record RecordGiven (table : List ℕ) (counts : Counts) (weight : List ℕ) (s : State) (observed : List ℕ) : Type 0 where
   pub weighed : Weighed table counts weight
   pub fits : stateFits (tableIn table) s ≡ true
   pub room : 2 * tableIn table .gauges ≤ length observed

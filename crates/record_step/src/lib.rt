@@ -9,7 +9,7 @@ ghost use Rattle.state.specs.Answers.{Answered};
 ghost use Rattle.element_weights.specs.Weights.{Weighed};
 ghost use Rattle.network_step.specs.Held.{Cleared};
 ghost use Rattle.entries.specs.Entries.{stepOnAnswer};
-ghost use Rattle.record_step.specs.Judged.{JudgeReady, StepJudged, RecordReady, RecordWorked, WriteGiven};
+ghost use Rattle.record_step.specs.Judged.{JudgeReady, StepJudged, RecordGiven, RecordWorked, WriteGiven};
 use network_step::work_step;
 use next_state::write_state;
 use refusal::Refusal;
@@ -52,7 +52,7 @@ fn work_record(
     observed: &mut [u64],
     space: &mut [u64],
 ) -> Verdict
-    requires { ⌜ RecordReady (now table) counts (now weights) (now state) (now observed) × Cleared (tableIn (now table) .elements) (now space) ⌝ }
+    requires { ⌜ RecordGiven (now table) counts (now weights) (now state) (now observed) × Cleared (tableIn (now table) .elements) (now space) ⌝ }
     ensures { λ r. ⌜ RecordWorked r (now (space .exit)) (tableIn (now (table .entry))) (now (bytes .entry)) (now (state .entry)) ⌝ }
 {
     let verdict = judge_step(

@@ -11,7 +11,7 @@ ghost use Rattle.table.specs.InUse.{tableIn};
 ghost use Rattle.state.specs.Rules.{stateFits};
 ghost use Rattle.network.specs.Lent.{Lent};
 ghost use Rattle.network_step.specs.Held.{Cleared};
-ghost use Rattle.record_step.specs.Judged.{RecordReady};
+ghost use Rattle.record_step.specs.Judged.{RecordGiven};
 ghost use Rattle.entries.specs.Trials.{trialAnswer};
 ghost use Rattle.trial.specs.Held.{TrialHeld};
 use answer_space::figures_at;
@@ -49,7 +49,7 @@ fn trial_in(
     space: &mut [u64],
     out: &mut [u64],
 ) -> ForecastAnswer
-    requires { ⌜ RecordReady (now table) counts [] (now state) (now observed) × Cleared (tableIn (now table) .elements) (now space) ⌝ }
+    requires { ⌜ RecordGiven (now table) counts [] (now state) (now observed) × Cleared (tableIn (now table) .elements) (now space) ⌝ }
     ensures { λ r. ⌜ TrialHeld r (now (out .exit)) (now (table .entry)) (now (bytes .entry)) (now (state .entry)) (now (out .entry)) ⌝ }
 {
     let basins = counts.basins;

@@ -2,16 +2,12 @@
 use borrow.Author.Needs.{needs}
 use borrow.Author.Tests.{not-true, not-false}
 use native.Mathlib.Omega.{arith}
-use Rattle.state.proofs.BoundsLaws.{state-bounds}
-use Rattle.record_step.proofs.StepLaws.{refused-before, refused-above, all-accepted}
+use Rattle.record_step.proofs.StepLaws.{judge-ready, work-ready, refused-before, refused-above, all-accepted}
 use Rattle.record_step.proofs.work_record.Statement.{statement}
 use Rattle.record_step.proofs.work_record.Tie as tie
 
 judge-step-requires : tie.Need-judge-step-requires
-judge-step-requires c κs =
-    let p = c .before .before .before .before .before .before .pre .0 in
-    let known = p .weighed .counted in
-    record { counted = (known .table, (known .basins, known .dams)); fits = p .fits; room = p .room }
+judge-step-requires c κs = judge-ready (c .before .before .before .before .before .before .pre .0)
 
 enum-told : tie.Need-enum-told
 enum-told c = search needs
@@ -30,18 +26,7 @@ work-step-requires c κs =
     let known = c .before .before in
     let j = known .before .before .before .before in
     let p = j .before .before .before .before .before .before .before .pre in
-    let accepted = known .enum-told .given .1 in (
-      record {
-        accepts = p .0 .weighed .counted .table;
-        counted = p .0 .weighed .counted .basins;
-        weights = p .0 .weighed .weights;
-        kept = j .judge-step .ensures .kept accepted;
-        held = j .judge-step .ensures .held accepted;
-        room = omega (arith, j .judge-step .kept, p .0 .room);
-        state = state-bounds _ _ (p .0 .fits);
-      },
-      p .1,
-    )
+    (work-ready (p .0) (j .judge-step .ensures) (omega (arith, j .judge-step .kept)) (known .enum-told .given .1), p .1)
 
 same-length-2 : tie.Need-same-length-2
 same-length-2 c = search needs

@@ -5,7 +5,7 @@ use native.Mathlib.Omega.{arith}
 use Prim.Native.Nat.{_*_, _≤_}
 use lib.ListN.{length}
 use Rattle.table.specs.InUse.{tableIn}
-use Rattle.state.proofs.BoundsLaws.{state-bounds}
+use Rattle.record_step.proofs.StepLaws.{judge-ready, work-ready}
 use Rattle.trial.proofs.TrialLaws.{refused-before, too-small, above-ceiling, all-written}
 use Rattle.trial.proofs.trial_in.Statement.{statement}
 use Rattle.trial.proofs.trial_in.Tie as tie
@@ -28,10 +28,7 @@ enough : (e : tie.Else1) → let s = start (judged (told e)) in 4 * tableIn (s .
 enough e = omega (arith, e .if1 .left, start (judged (told e)) .pre .0 .weighed .counted .held .elements)
 
 judge-step-requires : tie.Need-judge-step-requires
-judge-step-requires c κs =
-    let p = c .before .before .before .before .before .before .pre .0 in
-    let known = p .weighed .counted in
-    record { counted = (known .table, (known .basins, known .dams)); fits = p .fits; room = p .room }
+judge-step-requires c κs = judge-ready (c .before .before .before .before .before .before .pre .0)
 
 enum-known-verdict : tie.Need-enum-known-verdict
 enum-known-verdict c = search needs
@@ -65,18 +62,7 @@ work-step-requires c κs =
     let k = told (c .before .before .before) in
     let j = judged k in
     let p = start j .pre in
-    let accepted = k .enum-told .given .1 in (
-      record {
-        accepts = p .0 .weighed .counted .table;
-        counted = p .0 .weighed .counted .basins;
-        weights = p .0 .weighed .weights;
-        kept = j .judge-step .ensures .kept accepted;
-        held = j .judge-step .ensures .held accepted;
-        room = omega (arith, j .judge-step .kept, p .0 .room);
-        state = state-bounds _ _ (p .0 .fits);
-      },
-      p .1,
-    )
+    (work-ready (p .0) (j .judge-step .ensures) (omega (arith, j .judge-step .kept)) (k .enum-told .given .1), p .1)
 
 same-length-3 : tie.Need-same-length-3
 same-length-3 c = search needs
