@@ -383,9 +383,14 @@ def a_trial():
     rows = [f"element {place // 4 + 1}" * (place % 4 == 0) + f" {n(gap[place])} | {n(plausible[place])} | {n(doubtful[place])}"
             for place in range(12)]
     moved = [n(abs(answer[8] - gap[8])) for answer in (plausible, doubtful)]
+    noise, apart = table.gauges[0].noise, [abs(z - gap[8]) for z in rated]
+    usual = ((gap[10] + noise) / 1_000) ** 0.5  # m3/s
+    times = [each / 1_000_000 / usual for each in apart]
     return f"""2 {rain_1} {rain_2} {n(stages[0])} {n(rated[0])} {n(stages[1])} {n(rated[1])}
     {n(stages[0])} {n(stages[1])} {" ".join(rows)}
-    1 2 element 3 {n(stages[0])} {moved[0]} {n(stages[1])} {moved[1]} {n(doubtful[9])} {state.steps}"""
+    1 2 element 3 {n(stages[0])} {moved[0]} {n(stages[1])} {moved[1]} {n(doubtful[9])}
+    {gap[10]} {noise} {gap[10] + noise} 0.001 {usual:.2f} {n(stages[0])} {n(apart[0])} {times[0]:.1f} {n(stages[1])} {n(apart[1])} {times[1]:.0f}
+    {state.steps}"""
 
 
 def dam_river_told():
