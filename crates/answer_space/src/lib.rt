@@ -1,8 +1,9 @@
 // The working space of a step or a forecast: the figures of one element, four numbers at each place; an answer's numbers copied.
 ghost use mathlib.Core.Path.{_≡_};
 ghost use Prim.Native.Nat.{_+_, _*_, _≤_, _<_};
-ghost use lib.ListN.{length};
+ghost use lib.ListN.{length, drop};
 ghost use lib.Seq.{paste};
+ghost use Rattle.sizes.specs.Sizes.{mostElements};
 ghost use Rattle.method.specs.Figures.{FiguresFit};
 ghost use Rattle.method.specs.Inflow.{joinedInflow};
 ghost use Rattle.answer_space.specs.Places.{figuresAt, put, putAndAdded, mostSum, FiguresBelow, PlacesReady};
@@ -84,5 +85,15 @@ pub fn copy_numbers(answer: &[u64], count: usize, out: &mut [u64])
 {
     for k in 0..count {
         out[k] = answer[k];
+    }
+}
+
+// The figures of n elements, from place 1 on, put into the lent space one after the other.
+pub fn write_figures(space: &[u64], n: usize, out: &mut [u64])
+    requires { ⌜ (n ≤ mostElements) × ((4 * (n + 1) ≤ length (now space)) × (4 * n ≤ length (now out))) ⌝ }
+    ensures { λ _. ⌜ now (out .exit) ≡ paste (now (out .entry)) 0 (drop 4 (now (space .entry))) (4 * n) ⌝ }
+{
+    for i in 0..n {
+        put_figures(&mut *out, i, figures_at(space, i + 1));
     }
 }

@@ -2,11 +2,11 @@
 use Prim.Native.Nat.{ℕ, zero, suc, _+_, _*_, _≤_, _<_}
 use mathlib.Core.Bool.{Bool, true, false}
 use mathlib.Core.List.{List}
-use mathlib.Core.Path.{_≡_, refl, sym, ap, _∙_}
+use mathlib.Core.Path.{_≡_, sym, ap, _∙_}
 use native.Mathlib.Nat.{mul-one}
 use native.Mathlib.Omega.{arith}
-use lib.ListN.{length, getD, set, take, drop, length-drop}
-use lib.Seq.{paste, getD-drop}
+use lib.ListN.{length, take, drop, length-drop}
+use lib.Seq.{paste}
 use Rattle.sizes.specs.Sizes.{mostElements}
 use Rattle.refusal.specs.declared.Refusal.{Refusal}
 use Rattle.refusal.specs.declared.Refusal.the-variants.{StateRange, AnswerSpace, AboveCeiling}
@@ -24,8 +24,7 @@ use Rattle.network.specs.Lent.{layout}
 use Rattle.network.proofs.StepLaws.{stepped-figures}
 use Rattle.network.proofs.LayoutLaws.{layout-length, by-lead-length}
 use Rattle.network.proofs.LentLaws.{lent-refused, lent-as, space-refused, none-copied, all-copied}
-use Rattle.answer_space.specs.Places.{figuresAt, put}
-use Rattle.answer_space.proofs.CopyLaws.{copied-more}
+use Rattle.answer_space.specs.Places.{figuresAt}
 use Rattle.next_state.specs.Written.{FiguresHeld}
 use Rattle.network_step.specs.Held.{underVerdict, StepWorked}
 use Rattle.leads.proofs.LayoutLaws.{figures-after, answer-laid}
@@ -35,41 +34,6 @@ use Rattle.entries.proofs.StepRuleLaws.{step-accepted, step-refused}
 use Rattle.record_step.specs.Judged.{StepJudged}
 use Rattle.record_step.proofs.StepLaws.{judged-accepted, judged-refused}
 use Rattle.trial.specs.Held.{TrialHeld}
-
--- ---- the figures copied, element by element
-
-module _ (out space : List ℕ) where
-  -- one number more
-  number-copied :
-      (j from next : ℕ)
-      → from ≡ 4 + j
-      → next ≡ j + 1
-      → j < length out
-      → from < length space
-      → set (paste out 0 (drop 4 space) j) j (getD space from 0) ≡ paste out 0 (drop 4 space) next
-  number-copied j from next e f room there =
-      rw (e, f, ← getD-drop 4 space j 0) (copied-more out _ (drop 4 space) j refl room (omega (arith, e, length-drop 4 space)))
-
-  -- one element more
-  pub figures-copied :
-      (i : ℕ) {now after : List ℕ}
-      → 4 * (i + 2) ≤ length space
-      → 4 * (i + 1) ≤ length out
-      → now ≡ paste out 0 (drop 4 space) (4 * i)
-      → after ≡ put now i (figuresAt space (i + 1))
-      → after ≡ paste out 0 (drop 4 space) (4 * (i + 1))
-  unfolding put figuresAt
-  figures-copied i there room h a =
-      a
-      ∙ rw (
-        h,
-        number-copied (4 * i) (4 * (i + 1)) (4 * i + 1) (omega arith) (omega arith) (omega arith) (omega arith),
-        number-copied (4 * i + 1) (4 * (i + 1) + 1) (4 * i + 2) (omega arith) (omega arith) (omega arith) (omega arith),
-        number-copied (4 * i + 2) (4 * (i + 1) + 2) (4 * i + 3) (omega arith) (omega arith) (omega arith) (omega arith),
-        number-copied (4 * i + 3) (4 * (i + 1) + 3) (4 * (i + 1)) (omega arith) (omega arith) (omega arith) (omega arith),
-      )
-
--- ---- the answer
 
 module _ (table bytes : List ℕ) (s : State) where
   abbrev t : TableValues

@@ -2,10 +2,9 @@
 ghost use mathlib.Core.Bool.{true};
 ghost use mathlib.Core.List.{[]};
 ghost use mathlib.Core.Path.{_≡_};
-ghost use Prim.Native.Nat.{_+_, _*_, _≤_};
-ghost use lib.ListN.{length, drop};
-ghost use lib.Seq.{paste};
-ghost use Rattle.sizes.specs.Sizes.{smallElements, mostElements};
+ghost use Prim.Native.Nat.{_≤_};
+ghost use lib.ListN.{length};
+ghost use Rattle.sizes.specs.Sizes.{smallElements};
 ghost use Rattle.table.specs.Bounds.{Counted};
 ghost use Rattle.table.specs.InUse.{tableIn};
 ghost use Rattle.state.specs.Rules.{stateFits};
@@ -14,8 +13,7 @@ ghost use Rattle.network_step.specs.Held.{Cleared};
 ghost use Rattle.record_step.specs.Judged.{RecordGiven};
 ghost use Rattle.entries.specs.Trials.{trialAnswer};
 ghost use Rattle.trial.specs.Held.{TrialHeld};
-use answer_space::figures_at;
-use answer_space::put_figures;
+use answer_space::write_figures;
 use network::ForecastAnswer;
 use network_step::work_step;
 use record_step::judge_step;
@@ -28,16 +26,6 @@ use sizes::SMALL_STEP_SPACE;
 use sizes::STATE_NUMBERS;
 use sizes::STEP_SPACE;
 use table::Counts;
-
-// The figures of n elements in the working space, put into the lent space one after the other.
-fn write_figures(space: &[u64], n: usize, out: &mut [u64])
-    requires { ⌜ (n ≤ mostElements) × ((4 * (n + 1) ≤ length (now space)) × (4 * n ≤ length (now out))) ⌝ }
-    ensures { λ _. ⌜ now (out .exit) ≡ paste (now (out .entry)) 0 (drop 4 (now (space .entry))) (4 * n) ⌝ }
-{
-    for i in 0..n {
-        put_figures(&mut *out, i, figures_at(space, i + 1));
-    }
-}
 
 // A trial that rule 8 accepts, in a working space with nothing in it.
 fn trial_in(

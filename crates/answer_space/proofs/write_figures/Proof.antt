@@ -5,10 +5,9 @@ use borrow.Author.Needs.{needs}
 use native.Mathlib.Omega.{arith}
 use lib.ListN.{length, drop}
 use lib.Seq.{paste, paste-zero}
-use Rattle.answer_space.proofs.CopyLaws.{copied-all}
-use Rattle.trial.proofs.TrialLaws.{figures-copied}
-use Rattle.trial.proofs.write_figures.Statement.{statement}
-use Rattle.trial.proofs.write_figures.Tie as tie
+use Rattle.answer_space.proofs.CopyLaws.{copied-all, figures-copied}
+use Rattle.answer_space.proofs.write_figures.Statement.{statement}
+use Rattle.answer_space.proofs.write_figures.Tie as tie
 
 abbrev Inv-loop : tie.InvT-loop
 Inv-loop space n out₀ i₀ out i =
