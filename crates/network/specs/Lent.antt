@@ -29,7 +29,7 @@ unfoldable pub lentAfter : Answer (List Figures) → List ℕ → List ℕ
 lentAfter (accepted fs) before = layout fs ++ drop (length (layout fs)) before
 lentAfter (refused n) before = before
 
--- a forecast's answer and the lent numbers that it leaves
+-- the answer of a forecast or a trial, and the lent numbers that it leaves
 pub record Lent (r : ForecastAnswer) (after : List ℕ) (answer : Answer (List Figures)) (before : List ℕ) : Type 0 where
   pub count : countAnswer r ≡ countWritten answer
   pub numbers : after ≡ lentAfter answer before

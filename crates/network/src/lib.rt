@@ -1,4 +1,4 @@
-// The definitions of a step and of a forecast of the whole network, and what a forecast answers.
+// The definitions of a step and of a forecast of the whole network, and what a forecast or a trial answers.
 use refusal::Refusal;
 
 // The count of numbers written, or the refusal.

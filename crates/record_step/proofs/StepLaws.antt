@@ -11,11 +11,10 @@ use Rattle.refusal.specs.Refusals.{number}
 use Rattle.refusal.specs.Answers.{accepted, refused}
 use Rattle.refusal.proofs.RuleLaws.{not-both}
 use Rattle.refusal.specs.declared.Refusal.{Refusal}
-use Rattle.refusal.specs.declared.Refusal.the-variants.{StepLimit, AboveCeiling}
+use Rattle.refusal.specs.declared.Refusal.the-variants.{StepLimit}
 use Rattle.refusal.specs.declared.Verdict.{Verdict}
 use Rattle.refusal.specs.declared.Verdict.the-variants.{Accepted, Refused}
 use Rattle.refusal.specs.Verdicts.{verdictAnswer}
-use Rattle.units.specs.Ceiling.{underCeiling}
 use Rattle.table.specs.declared.Counts.{Counts}
 use Rattle.table.specs.Tables.{TableValues}
 use Rattle.table.specs.Bounds.{Counted}
@@ -29,7 +28,7 @@ use Rattle.state.specs.Rules.{stateFits, stepsLeft}
 use Rattle.state.specs.Answers.{Answered}
 use Rattle.state.proofs.AnswerLaws.{answered-accepted, answered-refused}
 use Rattle.state.proofs.BoundsLaws.{state-bounds}
-use Rattle.network.specs.Step.{stepped, stepNumbers}
+use Rattle.network.specs.Step.{stepped}
 use Rattle.network_step.specs.Held.{StepReady, underVerdict, StepWorked}
 use Rattle.entries.specs.Entries.{stepRules, stepOnAnswer}
 use Rattle.entries.proofs.StepRuleLaws as step-rules
@@ -57,6 +56,11 @@ module _ (t : TableValues) (bytes : List ℕ) (s : State) (h : stateFits t s ≡
       kept : v ≡ Accepted → recordRules {A = Unit} t bytes (accepted tt) ≡ accepted tt
       kept e = sym (r .decided) ∙ ap verdictAnswer e
 
+none-passes : (under : Bool) → underVerdict under ≡ Accepted → under ≡ true
+unfolding underVerdict
+none-passes true e = refl
+none-passes false e = absurd (not-both (ap verdictAnswer e) refl)
+
 -- what the verdict says of them
 module _ (t : TableValues) (bytes : List ℕ) (s : State) {v : Verdict} {observed : List ℕ} (h : StepJudged t bytes s v observed) where
   pub judged-accepted : v ≡ Accepted → stepRules {A = Unit} t bytes s (accepted tt) ≡ accepted tt
@@ -76,28 +80,21 @@ module _ (t : TableValues) (bytes : List ℕ) (s : State) {v : Verdict} {observe
         held = λ a. absurd (not-both (ap verdictAnswer a) (ap verdictAnswer e));
       }
 
-  module _ (e : v ≡ Accepted) {under : Bool} {space : List ℕ} (w : StepWorked under space t bytes s) where
-    after-rules : verdictAnswer (underVerdict under) ≡ stepRules t bytes s (underCeiling (stepNumbers t (inputAt t bytes) s) tt)
-    after-rules = w .decided ∙ sym (step-rules.step-accepted t bytes s _ (judged-accepted e))
-
-    -- 16
-    pub refused-above : under ≡ false → RecordWorked (Refused AboveCeiling) space t bytes s
-    unfolding underVerdict
-    refused-above f =
-        record {
-          decided = ap (λ (u : Bool). verdictAnswer (underVerdict u)) (sym f) ∙ after-rules;
-          kept = λ a. absurd (not-both (ap verdictAnswer a) refl);
-          held = λ a. absurd (not-both (ap verdictAnswer a) refl);
-        }
-
-    pub all-accepted : under ≡ true → RecordWorked Accepted space t bytes s
-    unfolding underVerdict
-    all-accepted f =
-        record {
-          decided = ap (λ (u : Bool). verdictAnswer (underVerdict u)) (sym f) ∙ after-rules;
-          kept = λ _. h .kept e;
-          held = λ _. w .held f;
-        }
+  -- and 16
+  pub after-judged :
+      {under : Bool} {space : List ℕ} (answer : Bool)
+      → v ≡ Accepted
+      → StepWorked under space t bytes s
+      → under ≡ answer
+      → RecordWorked (underVerdict answer) space t bytes s
+  after-judged answer e w f =
+      record {
+        decided =
+            ap (λ (u : Bool). verdictAnswer (underVerdict u)) (sym f)
+            ∙ (w .decided ∙ sym (step-rules.step-accepted t bytes s _ (judged-accepted e)));
+        kept = λ _. h .kept e;
+        held = λ a. w .held (f ∙ none-passes answer a);
+      }
 
 -- ---- the state
 

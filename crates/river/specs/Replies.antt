@@ -68,7 +68,7 @@ unfoldable pub writtenReply : Answer ℕ → Written
 writtenReply (accepted count) = record { refusal = 0; count = count }
 writtenReply (refused n) = record { refusal = n; count = 0 }
 
--- a forecast's reply and the lent numbers that it leaves
+-- the reply of a forecast or a trial, and the lent numbers that it leaves
 pub record ForecastReplied (r : Written) (after : List ℕ) (answer : Answer (List Figures)) (before : List ℕ) : Type 0 where
   pub reply : r ≡ writtenReply (countWritten answer)
   pub numbers : after ≡ lentAfter answer before

@@ -1,8 +1,10 @@
 -- `work_record` meets its contract.
 use borrow.Author.Needs.{needs}
+use mathlib.Core.Bool.{true, false}
 use borrow.Author.Tests.{not-true, not-false}
 use native.Mathlib.Omega.{arith}
-use Rattle.record_step.proofs.StepLaws.{judge-ready, work-ready, refused-before, refused-above, all-accepted}
+use Rattle.network_step.specs.Held.{underVerdict}
+use Rattle.record_step.proofs.StepLaws.{judge-ready, work-ready, refused-before, after-judged}
 use Rattle.record_step.proofs.work_record.Statement.{statement}
 use Rattle.record_step.proofs.work_record.Tie as tie
 
@@ -35,10 +37,11 @@ same-length-3 : tie.Need-same-length-3
 same-length-3 c = search needs
 
 returns-2 : tie.Need-returns-2
+unfolding underVerdict
 returns-2 c =
     let w = c .before .before .before in
     let known = w .before .before .before in
-    refused-above _ _ _ (known .before .before .before .before .judge-step .ensures) (known .enum-told .given .1) (w .work-step .ensures) (not-true _ (c .if1 .taken))
+    after-judged _ _ _ (known .before .before .before .before .judge-step .ensures) false (known .enum-told .given .1) (w .work-step .ensures) (not-true _ (c .if1 .taken))
 
 same-length-4 : tie.Need-same-length-4
 same-length-4 c = search needs
@@ -47,10 +50,11 @@ same-length-5 : tie.Need-same-length-5
 same-length-5 c = search needs
 
 returns-3 : tie.Need-returns-3
+unfolding underVerdict
 returns-3 c =
     let w = c .before .before .before in
     let known = w .before .before .before in
-    all-accepted _ _ _ (known .before .before .before .before .judge-step .ensures) (known .enum-told .given .1) (w .work-step .ensures) (not-false _ (c .if1 .left))
+    after-judged _ _ _ (known .before .before .before .before .judge-step .ensures) true (known .enum-told .given .1) (w .work-step .ensures) (not-false _ (c .if1 .left))
 
 pub work-record-spec : {M : Type 1} → statement M
 work-record-spec =
