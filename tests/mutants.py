@@ -155,7 +155,7 @@ class GapAsStageZero(GapAsStage65535):
 class UncorrectedInflow(Rules):
     """All gauges corrected after the whole network has moved."""
 
-    def below_inflow(self, figures, uncorrected):
+    def new_outflow(self, figures, uncorrected):
         return uncorrected
 
 
@@ -608,7 +608,7 @@ class RefusedStepBegun(Library):
         table = decode_table(call.table) if call.entry == "step" and number == 16 else None
         if table and table.elements[0].kind != DAM:
             element, rain = table.elements[0], number_at(call.record, 3, 2)
-            inflow = self.rules.step_rain_inflow(element, rain) if element.kind == BASIN else Figures(0, 0, 0, 0)
+            inflow = self.rules.step_rain_inflow(element, rain) if element.kind == BASIN else self.rules.reach_inflow([], [])
             try:
                 weight = self.rules.weight(table.step_minutes, element.lag)
                 reply.numbers[2:6] = array("Q", self.rules.move(element, weight, call.state.figures[0], inflow).numbers())
@@ -1058,7 +1058,7 @@ class FiguresBeforeCorrection(Rules):
         self.corrected = super().correct(figures, z, noise)
         return figures
 
-    def below_inflow(self, figures, uncorrected):
+    def new_outflow(self, figures, uncorrected):
         given, self.corrected = self.corrected or figures, None
         return given
 

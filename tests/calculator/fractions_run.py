@@ -1,5 +1,5 @@
-"""Document 01, "The run in fractions", with M-100's dams and M-102's trials: the same steps with exact F, no rounding, no margins and no
-ceiling.
+"""Document 01, "The run in fractions", with M-100's dams, M-102's trials and M-103's unrounded half sums: the same steps with exact F, no
+rounding, no margins and no ceiling.
 
 It is fed an accepted table, the records of accepted steps and nothing else, decodes them by itself and keeps its own state, so that it
 shares no line with whole_numbers.py.
@@ -125,9 +125,11 @@ class FractionsRun:
             if kind == 1:
                 inflow, inflow_variance = map(self.numbers.of, rain_inflow(place))
             else:
-                inflow = inflow_variance = self.numbers.of(0)
+                before = after = inflow_variance = self.numbers.of(0)
                 for higher in self.above[place]:
-                    inflow, inflow_variance = inflow + new[higher][0], inflow_variance + new[higher][1]
+                    before, after = before + figures[higher][0], after + new[higher][0]
+                    inflow_variance += new[higher][1]
+                inflow = self.numbers.mix(Fraction(1, 2), before, after)
             weight = exact_weight(self.step_minutes, lag)
             x = self.numbers.mix(weight, figures[place][0], inflow)
             v = self.numbers.square_mix(weight, figures[place][1], inflow_variance) + self.numbers.of(system_noise)
