@@ -461,6 +461,16 @@ def least_before(number, weight):
     return -(-number * 10 ** 9 // weight)
 
 
+def moved_margin(discharge, margin, weight):
+    """A margin after a move with no inflow but its margin of 1."""
+    return (weight * margin + 10 ** 9 - weight) // 10 ** 9 + 3 * (discharge + margin + 1) // 10 ** 9 + 3
+
+
+def lead_inflow_margin(figures, weight):
+    """The margin of a reach's inflow at lead 1 from (discharge, margin) of each reach above it, which has no inflow."""
+    return sum(margin + moved_margin(discharge, margin, weight) for discharge, margin in figures) // 2 + 1
+
+
 def ceiling_of_numbers():
     """Rule 16 exactly on its condition and just off it, by each kind of number that a run of the program can bring there."""
     for name, product in (("inflow is C", 14_400_000_000), ("inflow rounds down to C", 14_400_000_003), ("inflow is C + 1", 14_400_000_004),
@@ -470,11 +480,11 @@ def ceiling_of_numbers():
         table = dict(T=60, L=2, elements=[basin(area=area, f=f)], gauges=[])
         yield name, whole_input(table, [((rain,), ()), ((0,), ()), ((rain,), ())])
     H = weight_of(1, 60_000)
-    kept = H * CEILING // 10 ** 9
-    needed = least_before(CEILING - kept, H)
-    for more in (-1, 0, 1, 2):
-        table = dict(T=1, L=1, elements=[reach(down=3, lag=60_000, first_discharge=CEILING),
-                                         reach(down=3, lag=60_000, first_discharge=needed + more), reach(lag=60_000)], gauges=[])
+    sums = {odd + first + H * first // 10 ** 9: (first, odd) for first in range(33_300, 33_400) for odd in (0, 1)}
+    for more in (-2, -1, 0, 1, 2, 3):  # the sum of old and new outflows less 2 C; a first discharge of 1 is 0 after a step
+        first, odd = sums[CEILING - H * CEILING // 10 ** 9 + more]
+        table = dict(T=1, L=1, elements=[reach(down=4, lag=60_000, first_discharge=discharge) for discharge in (CEILING, first, odd)]
+                     + [reach(lag=60_000)], gauges=[])
         yield f"reach inflow near C, {more}", whole_input(table, [((), ())] * 3)
     once = H * (H * CEILING // 10 ** 9) // 10 ** 9  # the ceiling's variance after one step
     needed = least_before(least_before(CEILING - once, H), H)
@@ -496,10 +506,16 @@ def ceiling_of_numbers():
     for first in (0, 22, 24, 25, 27, 28, 30, 33):
         table = dict(T=60, L=2, elements=[reach(first_discharge=first)], gauges=[gauge(1, R=1, pieces=[(30_001, 1_000_000, 0)])])
         yield f"correction margin near C, first discharge {first}", whole_input(table, [((), (2_000,)), ((), (GAP,)), ((), (2_000,))])
-    # Two such margins of about half of C meet in a reach.
-    exactly = least_before(1_414 ** 2 * 1_000 + 1_415 ** 2 * 1_000 + 20 - CEILING, weight_of(60, 60))
-    for first, second, less in ((1_400, 1_400, 0), (1_414, 1_414, 0), (1_415, 1_415, 0), (1_414, 1_415, 0), (1_999, 100, 0), (1_999, 10, 0),
-                                (1_414, 1_415, exactly - 3), (1_414, 1_415, exactly), (1_414, 1_415, exactly + 3)):
+    # Two such margins meet in a reach: at the step half of them, at lead 1 half the sum of old and new ones, which passes C.
+    H = weight_of(60, 60)
+
+    def at_lead(less):
+        kept = H * less // 10 ** 9
+        return lead_inflow_margin([(0, 1_710 ** 2 * 1_000 + 10), (kept, 1_711 ** 2 * 1_000 - kept + 10)], H)
+
+    exactly = [max(less for less in range(8_569_100, 8_569_200) if at_lead(less) == CEILING + more) for more in (-1, 0, 1, 2)]
+    for first, second, less in ((1_400, 1_400, 0), (1_710, 1_710, 0), (1_711, 1_711, 0), (1_710, 1_711, 0), (1_999, 1_360, 0), (1_999, 10, 0),
+                                *((1_710, 1_711, less) for less in exactly)):
         table = dict(T=60, L=2, elements=[reach(down=3), reach(down=3, first_discharge=less), reach(down=4), reach()],
                      gauges=[gauge(1, R=1, pieces=[(30_001, 1_000_000, 0)]), gauge(2, R=1, pieces=[(30_001, 1_000_000, 0)])])
         records = [((), (first, second)), ((), (GAP, GAP))]
@@ -547,7 +563,7 @@ def dam_rivers():
             slow = [reach(down=3, lag=60_000, **{figure: CEILING}) for _ in range(2)]
             yield f"{figure.replace('first_', '')} above C into {name}", *river([*slow, below], ((), (), releases), ((), (), releases), T=1)
         stages = [gauge(number, R=1, pieces=[(30_001, 1_000_000, 0)]) for number in (1, 2)]
-        yield f"margin above C into {name}", *river([reach(down=3), reach(down=3), below], ((), (1_415, 1_415), releases),
+        yield f"margin above C into {name}", *river([reach(down=3), reach(down=3), below], ((), (1_711, 1_711), releases),
                                                     ((), (GAP, GAP), releases), gauges=stages)
         rainy = [basin(down=46, area=1, G=100_000_000) for _ in range(45)]
         yield f"lead variance above C into {name}", *river([*rainy, below], ((1,) * 45, (), releases), L=12)
@@ -555,9 +571,50 @@ def dam_rivers():
     half = CEILING // 2
     for name, releases in (("C", (CEILING, 0)), ("C by two dams", (half, half)), ("C + 1 by two dams", (half, half + 1))):
         yield f"lets {name} out", *river([dam(down=3), dam(down=3), reach()], ((), (), releases), ((), (), (0, 0)), ((), (), releases))
+    for more in (0, 1, 2, 3):  # after C; the sum of old and new releases is 2 C and so much more
+        yield f"lets C out and then C + {more}", *river([dam(down=3), dam(down=3), reach()], ((), (), (CEILING, 0)),
+                                                        ((), (), (CEILING, more)), ((), (), (0, 0)), L=1)
+    for name, below, releases in (("a dam", dam(), (7,)), ("a reach", reach(), ())):
+        full = [dam(down=64, first_discharge=CEILING) for _ in range(63)]
+        yield f"63 let C out into {name}", *river([*full, below], ((), (), (CEILING,) * 63 + releases), ((), (), (0,) * 63 + releases), L=1)
     for count, name in ((40, "C"), (41, "above C")):
         dams = [dam(down=count + 1, W=100_000_000) for _ in range(count)]
         yield f"lets variance {name} out", *river([*dams, reach()], ((), (), (1,) * count), L=1)
+
+
+# ---- The mean inflow of a reach ----------------------------------------------------------------------------------------------------------
+
+
+def mean_inflow_rivers():
+    """(name, table, records): what old and new outflows above bring to a reach."""
+    def river(elements, *records, gauges=(), **rest):
+        return dict(T=60, L=3, elements=elements, gauges=list(gauges)) | rest, list(records)
+
+    def released(*rows):
+        return [((), (), row) for row in rows]
+
+    yield "none drains in", *river([reach(), reach(lag=600, first_discharge=10 ** 9)], *[((), ())] * 6)
+    yield "odd sums of one", *river([dam(down=2), reach()], *released((1,), (0,), (5,), (6,), (5,), (5,), (0,), (3,), (2,)))
+    # By two dams: sums of old and new that are odd one by one, old and new apart, and in all.
+    rows = (1, 1), (0, 0), (1, 0), (0, 1), (2, 1), (2, 2), (3, 3), (0, 0)
+    yield "odd sums of two", *river([dam(down=3), dam(down=3), reach()], *released(*rows))
+    ones = [(number % 2,) * 63 for number in range(1, 5)]
+    yield "odd sums of 63", *river([dam(down=64) for _ in range(63)] + [reach()], *released(*ones, ones[0]), L=1)
+    yield "release up and down", *river([dam(down=2, first_discharge=10 ** 9, W=9), reach(down=3, lag=90), reach(W=4)],
+                                        *released((0,), (CEILING,), (CEILING,), (3,), (2 * 10 ** 9,)))
+    yield "first discharge as the old release", *river([dam(down=3, first_discharge=CEILING), dam(down=3, first_discharge=10 ** 9 + 1),
+                                                        reach(first_discharge=5)], *released((0, 0), (CEILING, 0), (7, 7)))
+    yield "old alone passes C", *river([dam(down=3, first_discharge=CEILING), dam(down=3, first_discharge=CEILING), reach()],
+                                       *released((0, 0), (CEILING, 0), (0, CEILING)), L=1)
+    yield "new alone passes C", *river([dam(down=3), dam(down=3), reach()], *released((CEILING, CEILING), (0, 0)), L=1)
+    gauged = [basin(down=3, first_discharge=9_000_000, first_variance=900, W=50, G=70),
+              reach(down=3, lag=90, first_discharge=70_000_000, first_variance=800, W=60),
+              reach(down=4, lag=100, first_discharge=1_000_000, W=70), reach(lag=150, W=8)]
+    stages = (1_500, 2_000), (GAP, 900), (700, GAP), (GAP, GAP), (3_000, 501)
+    yield "corrected above", *river(gauged, *(((rain,), row) for rain, row in zip((90, 0, 300, 5, 0), stages)), gauges=[gauge(1), gauge(2, R=9)])
+    chain = [basin(down=2, first_discharge=10 ** 9)] + [reach(down=(k + 1) * (k < 6), lag=60 * k, first_discharge=10 ** 8 * k, W=k)
+                                                        for k in range(2, 7)]
+    yield "chain of six", *river(chain, *(((rain,), ()) for rain in (3_000, 0, 0, 1_001, 0)), L=12)
 
 
 # ---- Curves of five pieces -------------------------------------------------------------------------------------------------------------
@@ -767,6 +824,8 @@ def inputs(long=False):
         add(f"dam: {name}", fixed(whole_input(table, records)))
     for name, data in release_orders():
         add(f"order: {name}", fixed(data))
+    for name, table, records in mean_inflow_rivers():
+        add(f"mean inflow: {name}", fixed(whole_input(table, records)))
     add("Yubetsu 2001", lambda random: YUBETSU.read_bytes())
     add("empty input", fixed(b""))
     add("no record", fixed(EXAMPLE[:-5]))
