@@ -26,7 +26,7 @@ from inputs import random_for
 
 ROOT = Path(__file__).resolve().parent.parent
 ENTRIES = {"start": 1, "step": 2, "forecast": 3, "check": 4, "version": 5, "rate": 6, "trial": 7}
-VERSION = 3  # of the interface
+VERSION = 4  # of the interface
 MOST_SHOWN = 20  # failed cases that are told of
 TIME_LIMIT = 60  # seconds for all calls
 

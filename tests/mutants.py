@@ -687,7 +687,7 @@ class LowByteOfMinutes(Library):
 
 
 class OldVersion(Library):
-    """A library of version 2 with a header of version 3."""
+    """A library of version 3 with a header of version 4."""
 
     def version(self, call):
         reply = super().version(call)
