@@ -1,8 +1,8 @@
 """The calls that the C interface is tried on, in cases; each case is built from a seed and its number, so that it can be made again by itself.
 
 cases() lists them; nothing is built before it is asked for. What standard input can reach is tried in inputs.py; here is the rest:
-states that no run brings about, lent space, places that no call may touch, each of rule 16's numbers on the ceiling, looks along a curve,
-and trials of a step.
+states that no run brings about, lent space, places that no call may touch, each of rule 16's numbers on the ceiling, old and new outflows
+above a reach, looks along a curve, and trials of a step.
 """
 from dataclasses import dataclass, replace
 from itertools import product
@@ -12,8 +12,9 @@ from calculator.encode import big_endian, record_bytes, table_bytes
 from calculator.whole_numbers import (BASIN, CEILING, GAP, MOST_ELEMENTS, RULES, SCALE, Figures, Refused, Rules, State, decode_table, start,
                                       step)
 from inputs import (ABOVE_ALL, CURVE_EDGES, DAM_RECORDS, FIVE_TOPS, SHAPES, SMALL_RECORDS, WAYS, basin, count_of, curve_rivers, dam,
-                    dam_edits, dam_river, dam_table, gauge, last_places, rule_edits, reach, river_of_curves, small_river, small_table,
-                    some_curve, some_records, some_stage, some_table, spoiled, spoiled_values, stages_of, taking_curve)
+                    dam_edits, dam_river, dam_table, gauge, last_places, mean_inflow_rivers, rule_edits, reach, river_of_curves,
+                    small_river, small_table, some_curve, some_records, some_stage, some_table, spoiled, spoiled_values, stages_of,
+                    taking_curve)
 
 LARGEST = 2 ** 64 - 1
 ROOM_FOR_ALL = 4 * 64 * 13
@@ -319,7 +320,7 @@ def single(which, value):
 
 
 def inflow_edges(which, entry):
-    """Two reaches drain into a third: the sum of one of their four figures."""
+    """Two reaches drain into a third: one of the four figures of its inflow."""
     table, name = slow_reaches(3), "reach inflow" + ("", " margin", " variance", " variance margin")[which]
 
     def build(random):
@@ -337,11 +338,11 @@ def margin_edges(entry):
         lent = lent_numbers(random, 24) if entry == "forecast" else ()
 
         def call(discharge, margin):
-            state = state_of(3, 3, [(0, CEILING, 0, 0), (0, 66_000, 0, 0), (discharge, margin, 0, 0)])
+            state = state_of(3, 3, [(0, CEILING, 0, 0), (0, 33_000, 0, 0), (discharge, margin, 0, 0)])
             return Call(f"moved margin, {margin} and discharge {discharge}", entry, table, state, record_bytes((), ()), lent)
 
         yield from edge_calls("moved margin", lambda p: call(0, p))
-        for margin in range(CEILING - 16, CEILING + 1):
+        for margin in range(CEILING - 40, CEILING - 23):
             for discharge in (0, 10 ** 9, 2 * 10 ** 9, 3 * 10 ** 9, CEILING):
                 yield call(discharge, margin)
     return build
@@ -524,7 +525,7 @@ def into_a_dam(random):
 
 
 def release_edges(entry):
-    """A release, or a discharge that is held, and a reach drain into a reach: their sum."""
+    """A release after one of C, or a discharge that is held, and a reach drain into a reach: half the sum of old and new."""
     elements = [dam(down=3), reach(down=3, lag=60_000), reach(lag=60_000)]
     table = table_bytes(SLOW | dict(elements=elements))
 
@@ -532,7 +533,7 @@ def release_edges(entry):
         lent = lent_numbers(random, 24) if entry == "forecast" else ()
 
         def call(p):
-            state = state_of(3, 3, [(p if entry == "forecast" else 0, 0, 0, 0), (10 ** 9, 0, 0, 0)])
+            state = state_of(3, 3, [(p if entry == "forecast" else CEILING, 0, 0, 0), (10 ** 9, 0, 0, 0)])
             return Call("", entry, table, state, record_bytes((), (), (p,)), lent)
         return edge_calls("reach inflow", call)
     return build
@@ -556,6 +557,88 @@ def dam_records_cut(random):
     for record in (*(DAM_RECORD[:size] for size in range(2, len(DAM_RECORD))), DAM_RECORD + bytes(4)):
         told = big_endian(len(record) - 2, 2) + record[2:]
         yield Call(f"record of {len(record)} bytes", "step", DAMS, state, told, side=random.randrange(2))
+
+
+# ---- The mean inflow of a reach ----------------------------------------------------------------------------------------------------------
+
+
+def inflow_call(name, random, entry, elements, figures, releases=None, leads=1):
+    """A step without rain or a forecast, from these figures; if nothing is said, all dams are shut."""
+    table = dict(T=60, L=leads, elements=elements, gauges=[])
+    record = record_bytes((0,) * count_of(table, 1), (), (0,) * count_of(table, 3) if releases is None else releases)
+    lent = lent_numbers(random, 4 * len(elements) * (leads + 1) + 1) if entry == "forecast" else ()
+    return Call(f"{name}, {entry}", entry, table_bytes(table), state_of(len(elements), 3, figures), record, lent, random.randrange(2))
+
+
+def into_reach(count):
+    return [dam(down=count + 1) for _ in range(count)] + [reach()]
+
+
+def half_sums(random):
+    """Old and new discharges, and old margins, of dams that add up to 2 C and some more or less: the half is C, or just passes it."""
+    for more in range(-3, 5):
+        old, new = [single(0, CEILING - 3), single(0, more + 3)], (CEILING // 2, CEILING // 2, 0)
+        call = inflow_call(f"discharges of 2 C {more:+}", random, "step", into_reach(3), old, new)
+        assert watched_number("reach inflow", call) == CEILING + more // 2
+        yield call
+        for entry in ("step", "forecast"):
+            margins = [single(1, CEILING), single(1, CEILING - 9), single(1, more + 9)]
+            call = inflow_call(f"margins of 2 C {more:+}", random, entry, into_reach(3), margins)
+            assert watched_number("reach inflow margin", call) == CEILING + 1 + more // 2
+            yield call
+    for entry in ("step", "forecast"):  # a sum above C is no reason to refuse
+        for which in (0, 1):
+            yield inflow_call(f"number {which} of C and C", random, entry, into_reach(2), [single(which, CEILING)] * (1 + which), (CEILING, 0))
+
+
+def largest_sums(random):
+    """63 elements of which each of the four figures is C before, and as high as it stays after: a dam takes it, a reach does not."""
+    full = (CEILING,) * 4
+    for above, new in ((dam(down=64), (CEILING,) * 63), (reach(down=64, lag=60_000), ())):
+        for below, last in ((dam(), (7,)), (reach(lag=60_000), ())):
+            for figures in (*(single(which, CEILING) for which in range(4)), full):
+                for entry in ("step", "forecast"):
+                    yield inflow_call(f"63 of {figures}", random, entry, [above] * 63 + [below], [figures] * 63, new + last)
+
+
+def old_and_new_above(random):
+    """Each figure of each element above a reach: discharge and margin of the old count, variance and its margin of the new alone."""
+    for above in (dam, reach, basin):
+        for which in range(4):
+            for value in (1, 2, 3, 5, 1_000_001, 10 ** 9, CEILING):
+                for place in (0, 1):
+                    figures = [(0, 0, 0, 0)] * place + [single(which, value)]
+                    elements = [above(down=3), above(down=3), reach(down=4), reach()]
+                    for entry in ("step", "forecast"):
+                        yield inflow_call(f"{above.__name__} {place + 1}, number {which} is {value}", random, entry, elements, figures, leads=3)
+
+
+def own_figures(random):
+    """The figures of the reach itself, with nothing draining in, and with all 0 above it: they are no outflow above."""
+    for elements, places in (([reach()], 0), ([reach(down=2), reach()], 1), ([dam(down=2), reach()], 1)):
+        for which in range(4):
+            for value in (0, 1, 3, 7, 10 ** 9 + 1, CEILING):
+                figures = [(0, 0, 0, 0)] * places + [single(which, value)]
+                for entry in ("step", "forecast"):
+                    yield inflow_call(f"own number {which} is {value}", random, entry, elements, figures, leads=3)
+
+
+def odd_sums(random):
+    """Small discharges and margins of two dams and two reaches above a reach: odd one by one, old and new apart, and in all."""
+    for *old, own in product((0, 1, 2), repeat=3):  # with one of these own discharges every change of the inflow shows
+        for new in product((0, 1, 3), repeat=2):
+            figures = [single(0, value) for value in (*old, own)]
+            yield inflow_call(f"discharges {old} and {new}, own {own}", random, "step", into_reach(2), figures, new)
+    for margins in product((0, 1, 2, 5), repeat=2):
+        for above in (dam(down=3), reach(down=3, lag=600)):
+            for entry in ("step", "forecast"):
+                figures = [single(1, value) for value in margins]
+                yield inflow_call(f"margins {margins}", random, entry, [above, above, reach()], figures, leads=2)
+
+
+def mean_inflow_cases():
+    for build in (half_sums, largest_sums, old_and_new_above, own_figures, odd_sums):
+        yield build.__name__.replace("_", " "), build
 
 
 # ---- Looks along a curve -----------------------------------------------------------------------------------------------------------------
@@ -1060,6 +1143,7 @@ def trial_cases():
     for name, build in (("numbers of places", dam_numbers), ("inflow above C", into_a_dam), ("cut records", dam_records_cut),
                         ("order of 17", release_orders)):
         yield f"dam, {name}", trials_of(build)
+    yield from ((f"mean inflow, {name}", trials_of(build)) for name, build in mean_inflow_cases())
     for name, build in ceiling_cases():
         if "forecast" not in name and " alone" not in name:
             yield f"ceiling, {name.removesuffix(', step')}", trials_of(build)
@@ -1136,6 +1220,9 @@ def cases():
                         ("cut records", dam_records_cut)):
         found.append(Case(f"dam: {name}", build))
     found += [Case("order: 17", release_orders), Case("dam: run", lambda random: run_of(random, *dam_river()), exact=True)]
+    found += [Case(f"mean inflow: {name}", build) for name, build in mean_inflow_cases()]
+    for name, *river in mean_inflow_rivers():
+        found.append(Case(f"mean inflow: {name}", lambda random, river=river: run_of(random, *river), exact=True))
     for name, build, count in (("several refusals", several_refusals, 25), ("random", random_calls(), 700),
                                ("random, 64 elements", random_calls(64), 24), ("noise", noise_calls, 60)):
         found += [Case(name, build) for _ in range(count)]
