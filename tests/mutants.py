@@ -337,6 +337,264 @@ class ReleasesAfterStages(Rules):
         return super().readings(table, record)
 
 
+# ---- Wrong inflows of a reach ------------------------------------------------------------------------------------------------------------
+
+
+def total(figures, name):
+    return sum(getattr(each, name) for each in figures)
+
+
+class WrongInflow(Rules):
+    """A right inflow of a reach that is then spoiled."""
+
+    def spoil(self, right, old, new):
+        raise NotImplementedError
+
+    def reach_inflow(self, old, new):
+        return self.spoil(super().reach_inflow(old, new), old, new)
+
+
+class SumOfNewOutflows(WrongInflow):
+    """The rule before M-103."""
+
+    def spoil(self, right, old, new):
+        return replace(right, discharge=total(new, "discharge"), margin=total(new, "margin"))
+
+
+class OldForNew(WrongInflow):
+    """The old outflows alone, but for the variance."""
+
+    def spoil(self, right, old, new):
+        return replace(right, discharge=total(old, "discharge"), margin=total(old, "margin") + 1)
+
+
+class ElementsHalvedOneByOne(WrongInflow):
+    figure = "discharge"
+
+    def spoil(self, right, old, new):
+        return replace(right, **{self.figure: sum(total(pair, self.figure) // 2 for pair in zip(old, new)) + (self.figure == "margin")})
+
+
+class MarginsHalvedOneByOne(ElementsHalvedOneByOne):
+    figure = "margin"
+
+
+class OldAndNewHalvedApart(WrongInflow):
+    figure = "discharge"
+
+    def spoil(self, right, old, new):
+        halves = total(old, self.figure) // 2 + total(new, self.figure) // 2
+        return replace(right, **{self.figure: halves + (self.figure == "margin")})
+
+
+class MarginsHalvedApart(OldAndNewHalvedApart):
+    figure = "margin"
+
+
+class HalfRoundedUp(WrongInflow):
+    def spoil(self, right, old, new):
+        return replace(right, discharge=right.discharge + total([*old, *new], "discharge") % 2)
+
+
+class MarginHalfRoundedUp(WrongInflow):
+    def spoil(self, right, old, new):
+        return replace(right, margin=right.margin + total([*old, *new], "margin") % 2)
+
+
+class NoMarginWhereNoneDrains(WrongInflow):
+    def spoil(self, right, old, new):
+        return replace(right, margin=right.margin if new else 0)
+
+
+class InflowMarginWithoutOne(WrongInflow):
+    """Where some drains in."""
+
+    def spoil(self, right, old, new):
+        return replace(right, margin=right.margin - bool(new))
+
+
+class OneForEachAbove(WrongInflow):
+    """A margin of 1 for each element that drains in."""
+
+    def spoil(self, right, old, new):
+        return replace(right, margin=right.margin - 1 + max(1, len(new)))
+
+
+class OldMarginsLeftOut(WrongInflow):
+    def spoil(self, right, old, new):
+        return replace(right, margin=total(new, "margin") // 2 + 1)
+
+
+class MarginsNotHalved(WrongInflow):
+    def spoil(self, right, old, new):
+        return replace(right, margin=total([*old, *new], "margin") + 1)
+
+
+class MeanOverElements(WrongInflow):
+    """The mean of all outflows above in place of the mean of their sums."""
+
+    def spoil(self, right, old, new):
+        return replace(right, discharge=right.discharge // max(1, len(new)))
+
+
+class HalfVariance(WrongInflow):
+    def spoil(self, right, old, new):
+        return replace(right, variance=right.variance // 2)
+
+
+class HalfVarianceMargin(WrongInflow):
+    def spoil(self, right, old, new):
+        return replace(right, variance_margin=right.variance_margin // 2)
+
+
+class MeanVariance(WrongInflow):
+    """The variance as the discharge: half the sum of old and new."""
+
+    def spoil(self, right, old, new):
+        return replace(right, variance=total([*old, *new], "variance") // 2)
+
+
+class MeanVarianceMargin(WrongInflow):
+    def spoil(self, right, old, new):
+        return replace(right, variance_margin=total([*old, *new], "variance_margin") // 2 + 1)
+
+
+class OwnOldForThoseAbove(Rules):
+    """The reach's own old figures in the place of those above."""
+
+    def outflows_above(self, table, place, old, new):
+        above, new = super().outflows_above(table, place, old, new)
+        return [old[place]] if above else [], new
+
+
+class UncorrectedOldOutflow(Rules):
+    """A gauged element's old outflow as it was before its correction."""
+
+    def __init__(self):
+        self.before = {}
+
+    def correct(self, figures, z, noise):
+        corrected = super().correct(figures, z, noise)
+        self.before[corrected] = figures
+        return corrected
+
+    def outflows_above(self, table, place, old, new):
+        old, new = super().outflows_above(table, place, old, new)
+        return [self.before.get(each, each) for each in old], new
+
+
+class NewForOld(Rules):
+    """The new outflows in the place of the old ones, in a step and at the leads."""
+    lead, state = 0, None  # 0 in a step; the state of a forecast
+
+    def forecast(self, table_bytes, state, lent):
+        self.state = state
+        try:
+            return super().forecast(table_bytes, state, lent)
+        finally:
+            self.lead, self.state = 0, None
+
+    def network(self, *given):
+        self.lead += self.state is not None
+        return super().network(*given)
+
+    def old_above(self, old, new):
+        return new
+
+    def outflows_above(self, table, place, old, new):
+        old, new = super().outflows_above(table, place, old, new)
+        return self.old_above(old, new), new
+
+
+class NewForOldInSteps(NewForOld):
+    def old_above(self, old, new):
+        return old if self.lead else new
+
+
+class NewForOldAtLeads(NewForOld):
+    def old_above(self, old, new):
+        return new if self.lead else old
+
+
+class NewForOldAtLeadOne(NewForOld):
+    def old_above(self, old, new):
+        return new if self.lead == 1 else old
+
+
+class StateForOldAtLeads(NewForOld):
+    """The state's outflows as the old ones of every lead."""
+
+    def outflows_above(self, table, place, old, new):
+        return Rules.outflows_above(self, table, place, self.state.figures if self.lead else old, new)
+
+
+class DamNewReleaseAsOld(NewForOld):
+    """Wrong old outflows of dams alone."""
+
+    def dam_outflow(self, element, old, new, given):
+        return new
+
+    def outflows_above(self, table, place, old, new):
+        right, new_above = Rules.outflows_above(self, table, place, old, new)
+        for at, higher in enumerate(table.above[place]):
+            if table.elements[higher].kind == DAM:
+                right[at] = self.dam_outflow(table.elements[higher], old[higher], new[higher], self.state and self.state.figures[higher])
+        return right, new_above
+
+
+class DamFirstDischargeAsOld(DamNewReleaseAsOld):
+    def dam_outflow(self, element, old, new, given):
+        return replace(old, discharge=element.first_discharge)
+
+
+class DamNothingAsOld(DamNewReleaseAsOld):
+    def dam_outflow(self, element, old, new, given):
+        return replace(old, discharge=0)
+
+
+class DamOldMarginLeftOut(DamNewReleaseAsOld):
+    def dam_outflow(self, element, old, new, given):
+        return replace(old, margin=0)
+
+
+class DamOldMarginAtLeads(DamNewReleaseAsOld):
+    """The margin of the state at every lead."""
+
+    def dam_outflow(self, element, old, new, given):
+        return replace(old, margin=given.margin) if given else old
+
+
+class SumJudged(Rules):
+    """Rule 16 on the sum of old and new discharges beside its half."""
+    figure = "discharge"
+
+    def judged(self, old, new):
+        return total([*old, *new], self.figure)
+
+    def reach_inflow(self, old, new):
+        self.sum = self.judged(old, new)
+        return super().reach_inflow(old, new)
+
+    def move(self, element, weight, old, inflow):
+        if element.kind == REACH:
+            under_ceiling(self.sum)
+        return super().move(element, weight, old, inflow)
+
+
+class SumOfMarginsJudged(SumJudged):
+    figure = "margin"
+
+
+class OldSumJudged(SumJudged):
+    def judged(self, old, new):
+        return total(old, self.figure)
+
+
+class NewSumJudged(SumJudged):
+    def judged(self, old, new):
+        return total(new, self.figure)
+
+
 # ---- Wrong refusals --------------------------------------------------------------------------------------------------------------------
 
 
@@ -894,6 +1152,10 @@ class SevenForNoGauge(Rules):
         return right
 
 
+class InflowsBy(Library):
+    """A library by rules with wrong inflows; only the cases of the mean inflow are asked about it."""
+
+
 class WrongTrial(Library):
     """A library that is right but for its trials; only the cases of trials are asked about it."""
 
@@ -1201,19 +1463,28 @@ ONLY_LIBRARIES = (LooksBeyond, LooksAtReachRains, LooksAtDamRains, LooksNotAtDam
                   StageOfLowHalf, SevenForNoGauge)
 # Wrong programs that are wrong libraries too: a rate shows more of them than standard input.
 WRONG_LOOKS = (NextPieceAtTop, LastPieceFirst, GoesOnAfterFourteen, EveryPieceTested)
+# The same of wrong inflows: the states of a host show more than a run.
+WRONG_INFLOWS = (UncorrectedInflow, SumOfNewOutflows, OldForNew, ElementsHalvedOneByOne, MarginsHalvedOneByOne, OldAndNewHalvedApart,
+                 MarginsHalvedApart, HalfRoundedUp, MarginHalfRoundedUp, NoMarginWhereNoneDrains, InflowMarginWithoutOne, OneForEachAbove,
+                 OldMarginsLeftOut, MarginsNotHalved, MeanOverElements, HalfVariance, HalfVarianceMargin, MeanVariance, MeanVarianceMargin,
+                 OwnOldForThoseAbove, UncorrectedOldOutflow, NewForOld, NewForOldInSteps, NewForOldAtLeads, NewForOldAtLeadOne,
+                 StateForOldAtLeads, DamNewReleaseAsOld, DamFirstDischargeAsOld, DamNothingAsOld, DamOldMarginLeftOut, DamOldMarginAtLeads,
+                 SumJudged, SumOfMarginsJudged, OldSumJudged, NewSumJudged)
 # Rules by which trials alone are worked out: what only they can have wrong, and wrong steps.
 WRONG_TRIALS = (FifteenAfterSixteen, FifteenBeforeFourteen, FifteenBeforeSeventeen, FifteenBeforeTen, FifteenBeforeNine, FifteenBeforeEight,
                 FifteenBeforeTable, NineNotGiven, FiguresBeforeStep, FiguresOfLeadOne, FiguresBeforeCorrection, FiguresOnePlaceEarly,
                 ReadingOnElementBefore, ReadingOnElementAfter, ReadingOnElementsAbove, DamPassesVarianceOn)
 WRONG_STEPS = (ReadingsIgnored, ReadingsIgnoredByZeroGain, ReadingTakenWhole, CorrectionVarianceKept, GainMarginTwo, GapAsStage65535,
                GapAsStageZero, UncorrectedInflow, VarianceWeightNotSquared, SystemNoiseLeftOut, NextPieceAtTop, LastReadingForAll,
+               SumOfNewOutflows, OldForNew, NewForOldInSteps, DamNewReleaseAsOld, DamOldMarginLeftOut, NoMarginWhereNoneDrains, SumJudged,
                DamLetsInflowThrough, OldRelease, LastReleaseForAll, DamInflowJudged, TwelveForThirteen, SeventeenAfterThirteen,
                SeventeenBeforeTwelve, NegativeDepthSquared, OnlyValuesUnderCeiling, CeilingTakesOneMore, NineThousandSteps,
                ElevenThousandSteps, LooksBeyond, LooksAtReachRains, LooksAtDamRains, LooksNotAtLastPlace, LowHalves)
 # Of these, readings that change what their gauge's water does not reach.
 LEAKS = (ReadingOnElementBefore, ReadingOnElementAfter, ReadingOnElementsAbove, DamPassesVarianceOn, LastReadingForAll, DamLetsInflowThrough)
-NO_PROGRAMS = (Rules, Program, WrongAnswer, WrongLook, Watched, LooksNotAt, CeilingOf, *ONLY_LIBRARIES, *WRONG_TRIALS)
-NO_LIBRARIES = (Library, WrongTrial, TrialsBy)
+NO_PROGRAMS = (Rules, Program, WrongAnswer, WrongInflow, WrongLook, Watched, LooksNotAt, CeilingOf, DamOldMarginLeftOut, DamOldMarginAtLeads,
+               *ONLY_LIBRARIES, *WRONG_TRIALS)
+NO_LIBRARIES = (Library, InflowsBy, WrongTrial, TrialsBy)
 
 
 def libraries():
@@ -1224,6 +1495,8 @@ def libraries():
         yield wrong.__name__, Library(wrong())
     for wrong in WRONG_LOOKS:
         yield f"{wrong.__name__} in calls", Library(wrong())
+    for wrong in WRONG_INFLOWS:
+        yield f"{wrong.__name__} in calls", InflowsBy(wrong())
     for wrong in (*WRONG_TRIALS, *WRONG_STEPS):
         yield f"{wrong.__name__} in trials", TrialsBy(wrong())
     for number in range(7):
@@ -1345,10 +1618,40 @@ WRONG_IN_C = {
         TRIAL_WORKED, "    for (Reading *each = readings; each->element; each++) each->element -= each->element > 1;\n" + TRIAL_WORKED),
     "a trial lets water into a dam": (
         TRIED, "    const u8 *e = t.elements;\n    for (size_t i = 1; i <= t.count; i++, e += ELEMENT_BYTES)\n        if (e[DOWN] && "
-        "t.elements[ELEMENT_BYTES * (e[DOWN] - 1) + KIND] == DAM) drain(&space[e[DOWN]], &space[i]);\n" + TRIED),
+        "t.elements[ELEMENT_BYTES * (e[DOWN] - 1) + KIND] == DAM) drain(&space[e[DOWN]], &space[i], &space[i]);\n" + TRIED),
     "a trial corrects by no reading": (TRIAL_WORKED, TRIAL_WORKED.replace("readings", "&(Reading){0}")),
     "an old library": ("return RIVER_VERSION;", "return RIVER_VERSION - 1;"),
 }
+DISCHARGES, MARGINS = "old->discharge + new->discharge;", "old->discharge_margin + new->discharge_margin;"
+INFLOW, DISCHARGE_JUDGED = "    Estimate inflow = {in.discharge / 2, in.discharge_margin / 2 + 1};\n", "    if (inflow.value > CEILING ||"
+STEP_DRAINS, LEAD_OLD = "        drain(&space[e[DOWN]], old, &now);\n", "        Figures old = now;\n"
+BASIN_MOVED = "        if (move(w, noise, (Estimate){inflow, 1}, b, &now)) return 1;\n"
+REACH_MOVED = "        if (move_reach(w, noise, own[lead], &now)) return 1;\n"
+# These are tried by the cases of the mean inflow alone.
+WRONG_INFLOWS_IN_C = {
+    "outflows are halved one by one": (DISCHARGES, f"({DISCHARGES[:-1]}) / 2;", INFLOW, INFLOW.replace("discharge / 2", "discharge")),
+    "outflows add up in 32 bits": (DISCHARGES, DISCHARGES + "\n    into->discharge = (u32)into->discharge;"),
+    "margins of outflows add up in 32 bits": (MARGINS, MARGINS + "\n    into->discharge_margin = (u32)into->discharge_margin;"),
+    "an inflow is not halved": (INFLOW, INFLOW.replace("discharge / 2", "discharge")),
+    "half an inflow is rounded up": (INFLOW, INFLOW.replace("in.discharge / 2", "(in.discharge + 1) / 2")),
+    "an inflow margin without its 1": (INFLOW, INFLOW.replace(" + 1", "")),
+    "no inflow margin where none drains in": (INFLOW, INFLOW.replace("+ 1", "+ (in.discharge_margin > 0)")),
+    "the sum of outflows is judged": (DISCHARGE_JUDGED, DISCHARGE_JUDGED.replace("inflow.value", "in.discharge")),
+    "the sum of margins is judged": ("inflow.margin > CEILING", "in.discharge_margin > CEILING"),
+    "half a sum of C is refused": (DISCHARGE_JUDGED, DISCHARGE_JUDGED.replace(">", ">=")),
+    "an inflow variance is the mean": ("into->variance += new->variance;", "into->variance += (old->variance + new->variance) / 2;"),
+    "a step drains the new outflow twice": (STEP_DRAINS, STEP_DRAINS.replace("old", "&now")),
+    "a step drains the old outflow twice": (STEP_DRAINS, STEP_DRAINS.replace("&now", "old")),
+    "a step drains a dam's new release twice": (STEP_DRAINS, STEP_DRAINS.replace("old", "e[KIND] == DAM ? &now : old")),
+    "a lead of a basin drains the new outflow twice": (LEAD_OLD + BASIN_MOVED, BASIN_MOVED + LEAD_OLD),
+    "a lead of a reach drains the new outflow twice": (LEAD_OLD + REACH_MOVED, REACH_MOVED + LEAD_OLD),
+    "a lead of a basin drains the state's outflow": (LEAD_OLD + BASIN_MOVED, LEAD_OLD.replace("now", "own[0]") + BASIN_MOVED),
+    "a lead of a reach drains the state's outflow": (LEAD_OLD + REACH_MOVED, LEAD_OLD.replace("now", "own[0]") + REACH_MOVED),
+    "a lead of a dam leaves out the state's margin": ("    Figures old = own[0], held =",
+                                                      "    Figures old = dam_figures(own[0].discharge, 0), held ="),
+    "a lead of a dam keeps the state's margin": ("        old = held;\n", ""),
+}
+WRONG_IN_C |= WRONG_INFLOWS_IN_C
 
 
 def library_in_c(name, changes):
@@ -1373,6 +1676,7 @@ def caught_libraries():
         calls = list(case.build(random_for(SEED, number)))
         built.append((number + 1, replace(case, exact=False), calls, [right.reply(call) for call in calls]))
     trials = [each for each in built if each[1].name.startswith("trial: ")]
+    inflows = [each for each in built if each[1].name.startswith("mean inflow: ")]
 
     def first_caught(reply_to, among, alone=False):
         """`alone`: by neighbouring calls alone, as if the calculator had the same mistake."""
@@ -1383,12 +1687,13 @@ def caught_libraries():
         return "NOT CAUGHT", len(built)
 
     def first_caught_in_c(name, changes):
-        driver, among = built_driver(library_in_c(name, changes)), trials if name.startswith("a trial ") else built
+        driver = built_driver(library_in_c(name, changes))
+        among = trials if name.startswith("a trial ") else inflows if name in WRONG_INFLOWS_IN_C else built
         replies = iter(made_calls(driver, [call for _, _, calls, _ in among for call in calls], starts=1))
         return first_caught(lambda _: next(replies), among)
 
     for name, wrong in libraries():
-        yield name, *first_caught(wrong.reply, trials if isinstance(wrong, WrongTrial) else built)
+        yield name, *first_caught(wrong.reply, trials if isinstance(wrong, WrongTrial) else inflows if isinstance(wrong, InflowsBy) else built)
     yield "ReadingsIgnored in trials, by the step alone", *first_caught(TrialsBy(ReadingsIgnored()).reply, trials, alone=True)
     for wrong in LEAKS:
         yield f"{wrong.__name__}, by two trials alone", *first_caught(Library(wrong()).reply, trials, alone=True)
