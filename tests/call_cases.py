@@ -586,9 +586,9 @@ def half_sums(random):
             call = inflow_call(f"margins of 2 C {more:+}", random, entry, into_reach(3), margins)
             assert watched_number("reach inflow margin", call) == CEILING + 1 + more // 2
             yield call
-    for entry in ("step", "forecast"):  # a sum above C is no reason to refuse
-        for which in (0, 1):
-            yield inflow_call(f"number {which} of C and C", random, entry, into_reach(2), [single(which, CEILING)] * (1 + which), (CEILING, 0))
+    for entry in ("step", "forecast"):  # sums above C with halves that are not
+        yield inflow_call("discharges C and C", random, entry, into_reach(2), [single(0, CEILING)], (CEILING, 0))
+        yield inflow_call("margins C and C - 2", random, entry, into_reach(2), [single(1, CEILING), single(1, CEILING - 2)])
 
 
 def largest_sums(random):
@@ -607,10 +607,10 @@ def old_and_new_above(random):
         for which in range(4):
             for value in (1, 2, 3, 5, 1_000_001, 10 ** 9, CEILING):
                 for place in (0, 1):
-                    figures = [(0, 0, 0, 0)] * place + [single(which, value)]
+                    name, figures = f"{above.__name__} {place + 1}, number {which} is {value}", [(0, 0, 0, 0)] * place + [single(which, value)]
                     elements = [above(down=3), above(down=3), reach(down=4), reach()]
                     for entry in ("step", "forecast"):
-                        yield inflow_call(f"{above.__name__} {place + 1}, number {which} is {value}", random, entry, elements, figures, leads=3)
+                        yield inflow_call(name, random, entry, elements, figures, leads=3)
 
 
 def own_figures(random):

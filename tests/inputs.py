@@ -514,8 +514,8 @@ def ceiling_of_numbers():
         return lead_inflow_margin([(0, 1_710 ** 2 * 1_000 + 10), (kept, 1_711 ** 2 * 1_000 - kept + 10)], H)
 
     exactly = [max(less for less in range(8_569_100, 8_569_200) if at_lead(less) == CEILING + more) for more in (-1, 0, 1, 2)]
-    for first, second, less in ((1_400, 1_400, 0), (1_710, 1_710, 0), (1_711, 1_711, 0), (1_710, 1_711, 0), (1_999, 1_360, 0), (1_999, 10, 0),
-                                *((1_710, 1_711, less) for less in exactly)):
+    for first, second, less in ((1_400, 1_400, 0), (1_710, 1_710, 0), (1_711, 1_711, 0), (1_710, 1_711, 0), (1_999, 1_360, 0),
+                                (1_999, 10, 0), *((1_710, 1_711, less) for less in exactly)):
         table = dict(T=60, L=2, elements=[reach(down=3), reach(down=3, first_discharge=less), reach(down=4), reach()],
                      gauges=[gauge(1, R=1, pieces=[(30_001, 1_000_000, 0)]), gauge(2, R=1, pieces=[(30_001, 1_000_000, 0)])])
         records = [((), (first, second)), ((), (GAP, GAP))]
@@ -611,7 +611,8 @@ def mean_inflow_rivers():
               reach(down=3, lag=90, first_discharge=70_000_000, first_variance=800, W=60),
               reach(down=4, lag=100, first_discharge=1_000_000, W=70), reach(lag=150, W=8)]
     stages = (1_500, 2_000), (GAP, 900), (700, GAP), (GAP, GAP), (3_000, 501)
-    yield "corrected above", *river(gauged, *(((rain,), row) for rain, row in zip((90, 0, 300, 5, 0), stages)), gauges=[gauge(1), gauge(2, R=9)])
+    records = [((rain,), row) for rain, row in zip((90, 0, 300, 5, 0), stages)]
+    yield "corrected above", *river(gauged, *records, gauges=[gauge(1), gauge(2, R=9)])
     chain = [basin(down=2, first_discharge=10 ** 9)] + [reach(down=(k + 1) * (k < 6), lag=60 * k, first_discharge=10 ** 8 * k, W=k)
                                                         for k in range(2, 7)]
     yield "chain of six", *river(chain, *(((rain,), ()) for rain in (3_000, 0, 0, 1_001, 0)), L=12)

@@ -529,7 +529,7 @@ class StateForOldAtLeads(NewForOld):
 
 
 class DamNewReleaseAsOld(NewForOld):
-    """Wrong old outflows of dams alone."""
+    """The old outflow of a dam alone is wrong: here its new release."""
 
     def dam_outflow(self, element, old, new, given):
         return new
@@ -1482,8 +1482,9 @@ WRONG_STEPS = (ReadingsIgnored, ReadingsIgnoredByZeroGain, ReadingTakenWhole, Co
                ElevenThousandSteps, LooksBeyond, LooksAtReachRains, LooksAtDamRains, LooksNotAtLastPlace, LowHalves)
 # Of these, readings that change what their gauge's water does not reach.
 LEAKS = (ReadingOnElementBefore, ReadingOnElementAfter, ReadingOnElementsAbove, DamPassesVarianceOn, LastReadingForAll, DamLetsInflowThrough)
-NO_PROGRAMS = (Rules, Program, WrongAnswer, WrongInflow, WrongLook, Watched, LooksNotAt, CeilingOf, DamOldMarginLeftOut, DamOldMarginAtLeads,
-               *ONLY_LIBRARIES, *WRONG_TRIALS)
+# DamOldMarginLeftOut and the next: in a run a dam's margin is 0.
+NO_PROGRAMS = (Rules, Program, WrongAnswer, WrongInflow, WrongLook, Watched, LooksNotAt, CeilingOf, DamOldMarginLeftOut,
+               DamOldMarginAtLeads, *ONLY_LIBRARIES, *WRONG_TRIALS)
 NO_LIBRARIES = (Library, InflowsBy, WrongTrial, TrialsBy)
 
 
@@ -1693,7 +1694,8 @@ def caught_libraries():
         return first_caught(lambda _: next(replies), among)
 
     for name, wrong in libraries():
-        yield name, *first_caught(wrong.reply, trials if isinstance(wrong, WrongTrial) else inflows if isinstance(wrong, InflowsBy) else built)
+        among = trials if isinstance(wrong, WrongTrial) else inflows if isinstance(wrong, InflowsBy) else built
+        yield name, *first_caught(wrong.reply, among)
     yield "ReadingsIgnored in trials, by the step alone", *first_caught(TrialsBy(ReadingsIgnored()).reply, trials, alone=True)
     for wrong in LEAKS:
         yield f"{wrong.__name__}, by two trials alone", *first_caught(Library(wrong()).reply, trials, alone=True)
@@ -1756,7 +1758,8 @@ def try_programs():
 
 # Rules that change figures of the worked examples.
 WRONG_METHODS = (GainMarginTwo, ReadingsIgnored, CorrectionVarianceKept, RainSumByThree, LastRainOnly, LeadNoiseOnce,
-                 VarianceWeightNotSquared, SystemNoiseLeftOut, WeightsExchanged, ShortSeries)
+                 VarianceWeightNotSquared, SystemNoiseLeftOut, WeightsExchanged, ShortSeries, SumOfNewOutflows, OldForNew, NewForOldInSteps,
+                 NewForOldAtLeads, StateForOldAtLeads, DamNewReleaseAsOld, InflowMarginWithoutOne, MeanVariance)
 
 
 def changed_figures(text):
