@@ -1,8 +1,8 @@
 """The figures of the papers' worked examples, worked out by the calculator.
 
-worked() gives for each example of docs/METHOD.md, and sample_worked() for that of examples/yubetsu-2001/README.md (headings "### Worked
+worked() gives for each example of docs/METHOD.md, and sample_worked() for those of examples/yubetsu-2001/README.md (headings "### Worked
 example: NAME"), its numbers as text in the page's order; words without a digit may be left out. What the calculator did on the way (each
-blend, each inflow) is noted while it works, so that a changed rule shows here.
+blend, each inflow) is noted while it works, so that a changed rule shows here. Figures "before M-103" are those of BEFORE_M103.
 """
 import csv
 import subprocess
@@ -15,8 +15,8 @@ from statistics import median
 from calculator import tried_figures
 from calculator.encode import record_bytes, table_bytes
 from calculator.fractions_run import ExactNumbers, FractionsRun, exact_weight
-from calculator.program import cut_records, cut_table, run
-from calculator.whole_numbers import (BASIN, CEILING, DAM, GAP, RULES, SCALE, Element, Figures, Piece, Rules, State, decode_table,
+from calculator.program import Program, cut_records, cut_table, run
+from calculator.whole_numbers import (BASIN, CEILING, DAM, GAP, REACH, RULES, SCALE, Element, Figures, Piece, Rules, State, decode_table,
                                       record_fields)
 
 ROOT = Path(__file__).resolve().parent.parent
@@ -33,6 +33,16 @@ def d(fraction, places=2):
     """A fraction of 0 or more cut off after so many places."""
     whole, rest = divmod(int(fraction * 10 ** places), 10 ** places)
     return f"{whole:,}.{rest:0{places}}" if places else f"{whole:,}"
+
+
+def thousandths(grains):
+    """Grains as m³/s to the nearest 0.001."""
+    return d(Fraction((grains + 500) // 1_000, 1_000), 3)
+
+
+def signed(number, places=1):
+    """A number with its sign, rounded; a − as the page writes it."""
+    return f"{number:+.{places}f}".replace("-", "\u2212")
 
 
 # ---- What the calculator does on the way -----------------------------------------------------------------------------------------------
@@ -81,7 +91,9 @@ class Blend:
 
 @dataclass
 class Move:
-    """One element's move: its inflow, four blends (discharge, a, b, variance) and figures; of a dam only these, and what drained in."""
+    """One element's move: the old and new figures of what drains in, its inflow, four blends (discharge, a, b, variance) and figures; a
+    dam has no blends."""
+    above: tuple
     inflow: Figures
     blends: list
     system_noise: int
@@ -93,22 +105,26 @@ def noting(rules):
 
     class Noted(rules):
         def __init__(self):
-            self.blends, self.moves = [], []
+            self.blends, self.moves, self.above = [], [], ([], [])
 
         def blend(self, x, x_margin, y, y_margin, weight, weight_margin):
             value, margin = super().blend(x, x_margin, y, y_margin, weight, weight_margin)
             self.blends.append(Blend(x, x_margin, y, y_margin, weight, weight_margin, value, margin))
             return value, margin
 
+        def reach_inflow(self, old, new):
+            self.above = old, new
+            return super().reach_inflow(old, new)
+
         def move(self, element, weight, old, inflow):
             before = len(self.blends)
             figures = super().move(element, weight, old, inflow)
-            self.moves.append(Move(inflow, self.blends[before:], element.system_noise, figures))
+            self.moves.append(Move(self.above, inflow, self.blends[before:], element.system_noise, figures))
             return figures
 
         def dam(self, element, release, old, drained):
             figures = super().dam(element, release, old, drained)
-            self.moves.append(Move(drained, [], element.system_noise, figures))
+            self.moves.append(Move(self.above, drained, [], element.system_noise, figures))
             return figures
 
     return Noted
@@ -117,12 +133,28 @@ def noting(rules):
 Noted = noting(Rules)  # tests/mutants.py puts wrong rules here and in RULES
 
 
+class RulesBeforeM103(Rules):
+    """As it was: a reach took the new outflows above as if they had stood all step."""
+
+    def reach_inflow(self, old, new):
+        return Figures(*map(sum, zip((0, 0, 0, 0), *(figures.numbers() for figures in new))))
+
+
+BEFORE_M103 = RulesBeforeM103()
+
+
 # ---- The example rivers ----------------------------------------------------------------------------------------------------------------
 
 
 def bytes_of_hex(text):
     """The bytes of hex digits with comments."""
     return bytes.fromhex(" ".join(line.split("#")[0] for line in text.splitlines()))
+
+
+def added(figures, name):
+    """One number of several figures, written as a sum."""
+    each = [getattr(one, name) for one in figures]
+    return f"{' + '.join(map(n, each))} = {n(sum(each))}"
 
 
 class ExampleRiver:
@@ -149,21 +181,34 @@ class ExampleRiver:
         """A table's rows: each kind is a function from an element's place to its cell."""
         return "\n".join(" | ".join(kind(place) for place, _ in enumerate(self.elements)) for kind in kinds)
 
-    def taken_in(self, moves, given, figure, margin, basin):
-        """The row of an inflow or of its variance: `basin` writes a basin's own, a reach has the sums of two figures of all that drain
-        in, a dam has none."""
-        def summed(place, name):
-            above = [higher for higher, element in enumerate(self.elements) if element.down == place + 1]
-            return f"{' + '.join(n(getattr(given[higher], name)) for higher in above)} = {n(getattr(moves[place].inflow, name))}"
-
+    def outflows(self, moves, which):
+        """The row of the old (0) or of the new (1) discharges above a reach, added up, and of their margins."""
         def cell(place):
-            if self.elements[place].kind == DAM:
-                return "none"
-            if self.elements[place].kind == BASIN:
-                return f"{basin(place)}, margin {getattr(moves[place].inflow, margin)}"
-            return f"{summed(place, figure)}, margin {summed(place, margin)}"
-
+            above = moves[place].above[which]
+            return f"{added(above, 'discharge')}, margin {added(above, 'margin')}" if self.elements[place].kind == REACH else ""
         return cell
+
+    def inflows(self, moves, basin):
+        """The row of the inflow: `basin` writes a basin's own, a reach has half of the old and new sums, a dam has none."""
+        def half(place, name):
+            old, new = (sum(getattr(figures, name) for figures in above) for above in moves[place].above)
+            return f"[({n(old)} + {n(new)}) / 2]"
+
+        def reach(place):
+            inflow = moves[place].inflow
+            return f"{half(place, 'discharge')} = {n(inflow.discharge)}, margin {half(place, 'margin')} + 1 = {n(inflow.margin)}"
+
+        return self.by_kind(lambda place: f"{basin(place)}, margin {moves[place].inflow.margin}", reach)
+
+    def inflow_variances(self, moves, basin):
+        """The row of the inflow's variance: of a reach the sum of the new ones above."""
+        def reach(place):
+            new = moves[place].above[1]
+            return f"{added(new, 'variance')}, margin {added(new, 'variance_margin')}"
+        return self.by_kind(lambda place: f"{basin(place)}, margin {moves[place].inflow.variance_margin}", reach)
+
+    def by_kind(self, basin, reach):
+        return lambda place: {BASIN: basin, REACH: reach, DAM: lambda place: "none"}[self.elements[place].kind](place)
 
     def rain_inflow(self, moves, rains, divisor):
         """A basin's inflow as the page writes it: by the latest of its rains."""
@@ -176,9 +221,8 @@ class ExampleRiver:
         """A basin's inflow variance at a lead as the page writes it."""
         return lambda place: f"{lead} × {n(self.elements[place].rain_noise)} = {n(moves[place].inflow.variance)}"
 
-    def moves_written(self, moves, given, basin_inflow, basin_variance):
-        """The table of a step or a lead. `given` are the figures that each element lets out; the two functions write a basin's inflow. A
-        dam has figures and nothing on the way to them."""
+    def moves_written(self, moves, basin_inflow, basin_variance):
+        """The table of a step or a lead; the two functions write a basin's inflow. A dam has figures and nothing on the way to them."""
         def of_dam(dam, other):
             return lambda place: dam(moves[place].figures) if self.elements[place].kind == DAM else other(moves[place])
 
@@ -189,8 +233,8 @@ class ExampleRiver:
             return of_dam(lambda figures: "none", cell)
 
         return self.rows(
-            self.taken_in(moves, given, "discharge", "margin", basin_inflow),
-            self.taken_in(moves, given, "variance", "variance_margin", basin_variance),
+            self.outflows(moves, 0), self.outflows(moves, 1), self.inflows(moves, basin_inflow),
+            self.inflow_variances(moves, basin_variance),
             of_dam(lambda figures: n(figures.discharge), lambda move: move.blends[0].written()),
             of_dam(lambda figures: n(figures.margin), lambda move: move.blends[0].margin_written()), part(1), part(2),
             of_dam(lambda figures: n(figures.variance),
@@ -216,6 +260,33 @@ def the_weight():
     first = 60 * SCALE // (120 * 12)
     return (f"T = 60, lag = 120\n{pairs}\n{n(SCALE)} − [60 × {n(SCALE)} / (120 × 12)] = {n(SCALE)} − {n(first)}\n"
             f"{n(h)} {d(SCALE * exact_weight(60, 120))}")
+
+
+def below_a_dam(rules, T, lag, releases):
+    """The discharge of a reach below a dam, in grains, after these releases; both begin at 0."""
+    table = table_bytes(dict(T=T, L=1, elements=[dict(kind=DAM, down=2), dict(kind=REACH, lag=lag)], gauges=[]))
+    state = rules.start(table, State())
+    for release in releases:
+        state = rules.step(table, record_bytes((), (), (release,)), state)
+    return state.figures[1].discharge
+
+
+def straight_line():
+    """A release that rises evenly: the reach below after one lag, in steps of several lengths, and how far it runs behind at last."""
+    lag, top, rows, behind = 240, 24 * 10 ** 6, [], []
+    for T in (240, 120, 60, 1):
+        releases = [top * step // (lag // T) for step in range(1, lag // T + 1)]
+        after, before = (thousandths(below_a_dam(rules, T, lag, releases)) for rules in (RULES, BEFORE_M103))
+        rows.append(f"{T} {lag // T} {before} {after}")
+    for T, each in ((60, 60), (60, 120), (60, 480), (240, 240)):
+        releases = [step * 10 ** 6 for step in range(1, 401)]  # 1 m³/s a step
+        late = [(releases[-1] - below_a_dam(rules, T, each, releases)) / 10 ** 6 * T for rules in (BEFORE_M103, RULES)]  # minutes
+        weight = exact_weight(T, each)
+        assert abs(late[0] - T * weight / (1 - weight)) < 0.01 and abs(late[1] - late[0] - T / 2) < 0.01
+        behind.append(f"{T} {each} {late[0]:.1f} {late[1]:.1f}")
+    mean = RULES.reach_inflow([Figures(0, 0, 0, 0)], [Figures(top, 0, 0, 0)]).discharge // 10 ** 6
+    return f"""{lag} 0 24 {lag} {" ".join(rows)} 24 {thousandths(int(top * exact_weight(1, 1)))} {lag} (0 + 24) / 2 = {mean} 24
+    {" ".join(behind)}"""
 
 
 ONE = Element(kind=2, down=0, lag=120, area=0, runoff=0, first_discharge=0, first_variance=0, system_noise=50, rain_noise=0)
@@ -315,14 +386,14 @@ def figures_written(figures):
 def step_written(river, moves, state):
     """The table of a step, `state` being the one after it."""
     inflow = river.rain_inflow(moves, state.rains, "18")
-    table = river.moves_written(moves, state.figures, inflow, lambda place: n(moves[place].inflow.variance))
+    table = river.moves_written(moves, inflow, lambda place: n(moves[place].inflow.variance))
     return f"{river.heads_of_columns()} {table}"
 
 
 def lead_written(river, moves, state):
     """The table of lead 1 after the first step, `state` being the one after that."""
     inflow = river.rain_inflow(moves, state.rains, "(18 × 1)")
-    table = river.moves_written(moves, [move.figures for move in moves], inflow, river.rain_noise(moves, 1))
+    table = river.moves_written(moves, inflow, river.rain_noise(moves, 1))
     return f"{river.heads_of_columns()} {table}"
 
 
@@ -375,7 +446,7 @@ def a_trial():
     table = decode_table(TABLE)
     (rain_1, rain_2), _, (stage,) = record_fields(table, RECORDS[1])
     assert stage == GAP
-    stages = 1_750, 2_600
+    stages = 1_670, 2_600
     records = [record_bytes((rain_1, rain_2), (each,)) for each in (GAP, *stages)]
     gap, plausible, doubtful = (RULES.trial(TABLE, record, state, LENT)[1] for record in records)
     rated = [RULES.look(table.gauges[0], each).discharge for each in stages]
@@ -420,7 +491,7 @@ def river_with_a_dam():
     after_2 = ONE_DAM.after_steps(RULES, 2)[0].figures
     return f"""{dam_river_told()}
     {step_written(ONE_DAM, rules.moves, state)}
-    element 1 {n(rules.moves[1].inflow.discharge)} element 4 {n(rules.blends[-1].y)} {figures_written(state.figures[3])}
+    element 1 {n(rules.moves[1].above[1][0].discharge)} element 4 {n(rules.blends[-1].y)} {figures_written(state.figures[3])}
     {d(exact.figures[1][0], 0)} {d(exact.figures[1][1], 0)} {d(exact.figures[3][0], 3)} {d(exact.figures[3][1], 3)} element 4
     lead 1 {lead_written(ONE_DAM, leads.moves[:4], state)}
     lead 2 {figures_written(dam_2)} element 4 {figures_written(reach_2)}
@@ -610,7 +681,8 @@ def refused_with(down=0, rain=3_000, release=0, stage=30_000):
 
 def worked():
     """By name of the example: its numbers as text, in the page's order."""
-    return {"the weight": the_weight, "one move": one_move, "one look along a curve": one_look, "one reading": one_reading,
+    return {"the weight": the_weight, "a rise in a straight line": straight_line, "one move": one_move, "one look along a curve": one_look,
+            "one reading": one_reading,
             "one step of a river": one_step, "one lead": one_lead, "the mean of the last rains": later_rains, "a trial": a_trial,
             "a river with a dam": river_with_a_dam,
             "the weight's 3": weight_errors,
@@ -629,23 +701,29 @@ def sample_rows(name):
         return list(csv.DictReader(file))
 
 
-def thousandths(grains):
-    """Grains as m³/s to the nearest 0.001."""
-    return d(Fraction((grains + 500) // 1_000, 1_000), 3)
+class Gauged:
+    """What the sample river prints for the element of a gauge (numbered from 0; the last is Kaisei's, the outlet), and what was observed
+    there; hours count from 1."""
 
-
-class Kaisei:
-    """What the sample river prints for its outlet, and what was observed there; hours count from 1."""
-
-    def __init__(self, data):
+    def __init__(self, data, gauge=1, rules=RULES):
         self.table, self.stages = decode_table(cut_table(data)), sample_rows("stage.csv")
-        self.records = list(cut_records(data, len(cut_table(data))))
-        lines = (list(map(int, line.split())) for line in run(data).splitlines())
-        self.discharge = {(hour, lead): discharge for hour, element, lead, discharge, *_ in lines if element == len(self.table.elements)}
+        self.records, self.gauge = list(cut_records(data, len(cut_table(data)))), gauge
+        lines = (list(map(int, line.split())) for line in Program(rules).run(data).splitlines())
+        number = self.table.gauges[gauge].element
+        self.discharge = {(hour, lead): discharge for hour, element, lead, discharge, *_ in lines if element == number}
+
+    def rated(self, hour):
+        """The discharge of the hour's stage in grains, or GAP."""
+        stage = record_fields(self.table, self.records[hour - 1])[2][self.gauge]
+        return GAP if stage == GAP else RULES.look(self.table.gauges[self.gauge], stage).discharge
 
     def observed(self, hour):
-        stage = int.from_bytes(self.records[hour - 1][-2:], "big")
-        return "gap" if stage == GAP else thousandths(RULES.look(self.table.gauges[-1], stage).discharge)
+        return "gap" if self.rated(hour) == GAP else thousandths(self.rated(hour))
+
+    def forecasts(self, lead):
+        """By hour, in m³/s: the forecast made so many hours before, and what was observed; hours with a gap are left out."""
+        hours = [hour for hour in range(lead + 1, len(self.records) + 1) if self.rated(hour) != GAP]
+        return {hour: (self.discharge[hour - lead, lead] / 10 ** 6, self.rated(hour) / 10 ** 6) for hour in hours}
 
     def rows(self, hour):
         """The hour's forecasts, and what was observed one, two and three hours later."""
@@ -657,7 +735,7 @@ class Kaisei:
 
 
 def kaisei():
-    river = Kaisei(SAMPLE.read_bytes())
+    river = Gauged(SAMPLE.read_bytes())
     curve = [row for row in sample_rows("rating.csv") if (row["point"], row["year"]) == ("Kaisei", "2001")]
     stage = Fraction(river.stages[16 - 1]["kaisei_m"])
     piece = next(row for row in curve if not row["stage_to_m"] or stage < Fraction(row["stage_to_m"]))
@@ -684,7 +762,7 @@ def varied(**changes):
 
 def variations():
     def at_36(wanted, **changes):
-        river = Kaisei(varied(**changes))
+        river = Gauged(varied(**changes))
         return " ".join(thousandths(river.discharge[36, lead]) for lead in wanted)
 
     first = range(4)
@@ -693,6 +771,88 @@ def variations():
     0.39 0.2 {at_36(first, f_upper="0.39", f_lower="0.2")}
     2001 {at_36(first, curve_year="2001")}
     6 {at_36((4, 5, 6), leads="6")}"""
+
+
+def passed(series, discharge):
+    """When a series, in m³/s by time, first passes a discharge; between two times it counts as a straight line."""
+    times = sorted(series)
+    for before, after in zip(times, times[1:]):
+        if series[before] < discharge <= series[after]:
+            return before + (discharge - series[before]) / (series[after] - series[before]) * (after - before)
+
+
+def skill(river, lead):
+    """Of forecasts against what was observed: the root mean square error in m³/s, the peak's error in %, and by how many hours half of the
+    observed peak is passed too late."""
+    pairs = river.forecasts(lead)
+    errors = [(forecast - observed) ** 2 for forecast, observed in pairs.values()]
+    series = [{hour: pair[which] for hour, pair in pairs.items()} for which in (0, 1)]
+    highest, peak = (max(each.values()) for each in series)
+    late = passed(series[0], peak / 2) - passed(series[1], peak / 2)
+    return (sum(errors) / len(errors)) ** 0.5, 100 * (highest - peak) / peak, late
+
+
+def put_field(table, number, at, value, size):
+    """Writes a field of an element, which begins so many bytes after its first, into a table's bytes."""
+    at += 10 + 26 * (number - 1)
+    table[at:at + size] = value.to_bytes(size, "big")
+
+
+def without_reaches(data, left_out):
+    """The sample river with what drains into these reaches draining into what is below them. They stay in the table as outlets by
+    themselves, into which nothing drains."""
+    changed, elements = bytearray(data), decode_table(cut_table(data)).elements
+    for number, element in enumerate(elements, 1):
+        down = element.down
+        while down in left_out:
+            down = elements[down - 1].down
+        put_field(changed, number, 1, 0 if number in left_out else down, 1)
+    return bytes(changed)
+
+
+def other_step(T, least_lag):
+    """The sample river in steps of T minutes, its lags raised to the least one, with gaps in place of all readings, so that nothing but the
+    step differs. Hours of rain are repeated, or their mean is taken, to the nearest tenth of mm/h."""
+    data = SAMPLE.read_bytes()
+    table, decoded = bytearray(cut_table(data)), decode_table(cut_table(data))
+    table[5:7] = T.to_bytes(2, "big")
+    for number, element in enumerate(decoded.elements, 1):
+        put_field(table, number, 2, max(least_lag, element.lag), 2)
+    rains = [record_fields(decoded, record)[0] for record in cut_records(data, len(table))]
+    hours, times = max(1, T // 60), max(1, 60 // T)
+    means = [[(2 * sum(each) + hours) // (2 * hours) for each in zip(*rains[at:at + hours])]
+             for at in range(0, len(rains) - hours + 1, hours) for _ in range(times)]
+    return bytes(table) + b"".join(record_bytes(each, [GAP] * len(decoded.gauges)) for each in means)
+
+
+def before_and_after():
+    """Forecasts of the sample river by the rule before M-103 and by today's; how long its water takes between the gauges; when its rise
+    comes in steps of several lengths."""
+    data, both, rows = SAMPLE.read_bytes(), (BEFORE_M103, RULES), []
+    network, elements = sample_rows("network.csv"), decode_table(cut_table(SAMPLE.read_bytes())).elements
+    reaches = {row["id"]: number for number, row in enumerate(network, 1)}
+    for given, gauge in ((data, 0), (data, 1), (without_reaches(data, {reaches["E"], reaches["G"]}), 1)):
+        rivers = [Gauged(given, gauge, rules) for rules in both]
+        for lead in (1, 2, 3):
+            before, after = (skill(river, lead) for river in rivers)
+            rows.append(f"{lead} {before[0]:.1f} {after[0]:.1f} {' '.join(f'{signed(before[at])} {signed(after[at])}' for at in (1, 2))}")
+    chain = [row for row in network if row["id"] in "CDEG"]
+    speed = next(Fraction(row["value"]) for row in sample_rows("choices.csv") if row["choice"] == "speed")
+    weight = exact_weight(60, 60)
+    assert {elements[reaches[row["id"]] - 1].lag for row in chain} == {60}
+    late = len(chain) * 60 * weight / (1 - weight)  # as in straight_line
+    travel = [Fraction(row["length_m"]) / speed / 60 for row in chain]
+    minutes = [sum(travel), *travel[2:], Fraction(60), late, late + len(chain) * 30]
+    rows.append(" ".join(f"{float(each):.0f}" for each in minutes))
+    for T in (20, 60, 120, 180):
+        hours = []
+        for rules in both:
+            found = Gauged(other_step(T, 180), 1, rules).discharge
+            hours.append(f"{passed({step * T / 60: grains for (step, lead), grains in found.items() if lead == 0}, 400 * 10 ** 6):.1f}")
+        rows.append(f"{T} {' '.join(hours)}")
+    first, before, after = 16, *(Gauged(data, 1, rules) for rules in both)
+    at_first = f"{first} {after.observed(first)} {' '.join(thousandths(river.discharge[first - 1, 1]) for river in (before, after))}"
+    return f"{' '.join(rows[:-5])} {at_first} {rows[-5]} T 180 400 {' '.join(rows[-4:])}"
 
 
 def new_table():
@@ -717,4 +877,5 @@ def new_table():
 
 
 def sample_worked():
-    return {"Kaisei at the first hour, the first reading and the peak": kaisei, "three variations": variations}
+    return {"Kaisei at the first hour, the first reading and the peak": kaisei, "forecasts before and after M-103": before_and_after,
+            "three variations": variations}
