@@ -810,19 +810,29 @@ def without_reaches(data, left_out):
     return bytes(changed)
 
 
-def other_step(T, least_lag):
-    """The sample river in steps of T minutes, its lags raised to the least one, with gaps in place of all readings, so that nothing but the
-    step differs. Hours of rain are repeated, or their mean is taken, to the nearest tenth of mm/h."""
+def other_step(T, least_lag, with_readings):
+    """The sample river in steps of T minutes, its lags raised to the least one, with the readings of each step's last hour or with gaps.
+    Hours of rain are repeated, or their mean is taken, to the nearest tenth of mm/h."""
     data = SAMPLE.read_bytes()
     table, decoded = bytearray(cut_table(data)), decode_table(cut_table(data))
     table[5:7] = T.to_bytes(2, "big")
     for number, element in enumerate(decoded.elements, 1):
         put_field(table, number, 2, max(least_lag, element.lag), 2)
-    rains = [record_fields(decoded, record)[0] for record in cut_records(data, len(table))]
-    hours, times = max(1, T // 60), max(1, 60 // T)
-    means = [[(2 * sum(each) + hours) // (2 * hours) for each in zip(*rains[at:at + hours])]
-             for at in range(0, len(rains) - hours + 1, hours) for _ in range(times)]
-    return bytes(table) + b"".join(record_bytes(each, [GAP] * len(decoded.gauges)) for each in means)
+    given = [record_fields(decoded, record) for record in cut_records(data, len(table))]
+    hours, times, records = max(1, T // 60), max(1, 60 // T), []
+    for at in range(0, len(given) - hours + 1, hours):
+        means = [(2 * sum(each) + hours) // (2 * hours) for each in zip(*(rains for rains, _, _ in given[at:at + hours]))]
+        records += [record_bytes(means, given[at + hours - 1][2] if with_readings else [GAP] * len(decoded.gauges))] * times
+    return bytes(table) + b"".join(records)
+
+
+def errors_in_steps(T, travel):
+    """The errors of lead 1 at both gauges in longer steps, before and now: the whole network, and without the reaches that the water passes
+    in less than T / 2 (`travel` has the minutes by number)."""
+    whole = other_step(T, T, True)
+    short = {number for number, minutes in travel.items() if minutes < T / 2}
+    return [" ".join(f"{skill(Gauged(data, gauge, rules), 1)[0]:.1f}" for gauge in (0, 1) for rules in (BEFORE_M103, RULES))
+            for data in (whole, without_reaches(whole, short))], short
 
 
 def before_and_after():
@@ -836,23 +846,27 @@ def before_and_after():
         for lead in (1, 2, 3):
             before, after = (skill(river, lead) for river in rivers)
             rows.append(f"{lead} {before[0]:.1f} {after[0]:.1f} {' '.join(f'{signed(before[at])} {signed(after[at])}' for at in (1, 2))}")
-    chain = [row for row in network if row["id"] in "CDEG"]
     speed = next(Fraction(row["value"]) for row in sample_rows("choices.csv") if row["choice"] == "speed")
-    weight = exact_weight(60, 60)
-    assert {elements[reaches[row["id"]] - 1].lag for row in chain} == {60}
+    travel = {reaches[row["id"]]: Fraction(row["length_m"]) / speed / 60 for row in network if row["kind"] == "reach"}
+    chain, weight = [reaches[name] for name in "CDEG"], exact_weight(60, 60)
+    assert {elements[number - 1].lag for number in chain} == {60}
     late = len(chain) * 60 * weight / (1 - weight)  # as in straight_line
-    travel = [Fraction(row["length_m"]) / speed / 60 for row in chain]
-    minutes = [sum(travel), *travel[2:], Fraction(60), late, late + len(chain) * 30]
-    rows.append(" ".join(f"{float(each):.0f}" for each in minutes))
+    taken = [travel[number] for number in chain]
+    rows.append(" ".join(f"{float(each):.0f}" for each in (sum(taken), *taken[2:], 60, late, late + len(chain) * 30)))
+    longer = []
+    for T in (120, 180):
+        (whole, less), short = errors_in_steps(T, travel)
+        assert short == {reaches[name] for name in "BCDEG"}
+        longer.append(f"{T} {whole} {T} {less}")
     for T in (20, 60, 120, 180):
         hours = []
         for rules in both:
-            found = Gauged(other_step(T, 180), 1, rules).discharge
+            found = Gauged(other_step(T, 180, False), 1, rules).discharge
             hours.append(f"{passed({step * T / 60: grains for (step, lead), grains in found.items() if lead == 0}, 400 * 10 ** 6):.1f}")
         rows.append(f"{T} {' '.join(hours)}")
     first, before, after = 16, *(Gauged(data, 1, rules) for rules in both)
     at_first = f"{first} {after.observed(first)} {' '.join(thousandths(river.discharge[first - 1, 1]) for river in (before, after))}"
-    return f"{' '.join(rows[:-5])} {at_first} {rows[-5]} T 180 400 {' '.join(rows[-4:])}"
+    return f"{' '.join(rows[:-5])} {at_first} {rows[-5]} {' '.join(longer)} T 180 400 {' '.join(rows[-4:])}"
 
 
 def new_table():
