@@ -22,8 +22,10 @@ extern "C" {
 #endif
 
 /* The version of this header. At its start a host compares it with the library's own, river_version(), and makes no other call where they
- * differ: an object compiled with an old header would hand a new library its memory in another shape. */
-#define RIVER_VERSION 3
+ * differ: an object compiled with an old header would hand a new library its memory in another shape. A stored state belongs to the version
+ * that moved it. Version 4 has the layouts of 3; a reach takes the mean of the old and new outflows above it (M-103), so a state that
+ * version 3 has moved is not given to it: start anew and send the records again. */
+#define RIVER_VERSION 4
 
 enum { RIVER_MOST_PLACES = 64, RIVER_MOST_LEADS = 12, RIVER_MOST_GAUGES = 16 };
 enum { RIVER_MOST_NUMBERS = 4 * RIVER_MOST_PLACES * (RIVER_MOST_LEADS + 1) };
@@ -63,7 +65,8 @@ typedef struct {
 
 /* A river's state, 450 numbers: N, accepted steps, and a place for each element; place[0] is element 1. Before a start it may hold
  * anything. Places beyond the first N and the rains of reaches and dams are neither read nor changed.
- * A state may be stored and given back later with the same table: the run then goes on, also in another process after a power cut. */
+ * A state may be stored and given back later with the same table and the same RIVER_VERSION: the run then goes on, also in another process
+ * after a power cut. */
 typedef struct {
     uint64_t elements, steps;
     river_place place[RIVER_MOST_PLACES];

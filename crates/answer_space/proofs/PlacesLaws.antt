@@ -8,6 +8,7 @@ use native.Mathlib.Decide.{decLe}
 use native.Mathlib.Omega.{arith}
 use lib.ListN.{length, getD, set, length-set}
 use lib.Seq.{getD-set-same, getD-set-other}
+use Rattle.units.specs.Units.{C}
 use Rattle.method.specs.declared.Figures.{Figures}
 use Rattle.method.specs.Figures.{FiguresFit}
 use Rattle.method.specs.Inflow.{joinedInflow}
@@ -84,6 +85,31 @@ module _ (answer : List ℕ) (p : ℕ) (f : Figures) where
     pub put-here : figuresAt (put answer p f) p ≡ f
     unfolding figuresAt
     put-here = rw (first, second, third, fourth)
+
+-- how large sums are
+pub fits-below : {f : Figures} → FiguresFit f → FiguresBelow f C
+fits-below h =
+    record { discharge = h .discharge; dischargeMargin = h .dischargeMargin; variance = h .variance; varianceMargin = h .varianceMargin }
+
+pub below-most : {f : Figures} {b m : ℕ} → FiguresBelow f b → b ≤ m → FiguresBelow f m
+below-most h l =
+    record {
+      discharge = omega (arith, h .discharge);
+      dischargeMargin = omega (arith, h .dischargeMargin);
+      variance = omega (arith, h .variance);
+      varianceMargin = omega (arith, h .varianceMargin);
+    }
+
+pub joined-below :
+    {f x : Figures} {a b m : ℕ} → FiguresBelow f a → FiguresBelow x b → a + b ≤ m → FiguresBelow (joinedInflow f x) m
+unfolding joinedInflow
+joined-below h g l =
+    record {
+      discharge = omega (arith, h .discharge, g .discharge);
+      dischargeMargin = omega (arith, h .dischargeMargin, g .dischargeMargin);
+      variance = omega (arith, h .variance, g .variance);
+      varianceMargin = omega (arith, h .varianceMargin, g .varianceMargin);
+    }
 
 -- figures put at p, and then added to the sums at another place
 module _ (answer middle : List ℕ) (p q : ℕ) (f : Figures) (ready : PlacesReady answer p q f) (is : middle ≡ put answer p f) where

@@ -1,5 +1,5 @@
 -- Serves the code: the places of its working space, four numbers each.
-use Prim.Native.Nat.{ℕ, _+_, _*_, _≤_, _<_}
+use Prim.Native.Nat.{ℕ, _+_, _-_, _*_, _≤_, _<_}
 use mathlib.Core.List.{List}
 use mathlib.Core.Logic.{_≢_}
 use lib.ListN.{length, getD, set}
@@ -24,13 +24,23 @@ put answer p f =
     set (set (set (set answer (4 * p) (f .discharge .0)) (4 * p + 1) (f .«discharge_margin» .0)) (4 * p + 2) (f .variance .0))
     (4 * p + 3) (f .«variance_margin» .0)
 
+-- figures added to the sums at a place
+abbrev pub added : List ℕ → ℕ → Figures → List ℕ
+added answer p f = put answer p (joinedInflow (figuresAt answer p) f)
+
 -- the figures of an element put at one place, and added to the sums at another
 abbrev pub putAndAdded : List ℕ → ℕ → ℕ → Figures → List ℕ
 putAndAdded answer here below f = put (put answer here f) below (joinedInflow (figuresAt answer below) f)
 
--- what all elements together can let out
+-- what one element can let out, an old and a new figure; all elements together, and all but one
+abbrev pub mostOutflow : ℕ
+mostOutflow = 2 * C
+
 abbrev pub mostSum : ℕ
-mostSum = mostElements * C
+mostSum = mostElements * mostOutflow
+
+abbrev pub mostSumBefore : ℕ
+mostSumBefore = (mostElements - 1) * mostOutflow
 
 -- the numbers of a sum are at most b
 pub record FiguresBelow (f : Figures) (b : ℕ) : Type 0 where

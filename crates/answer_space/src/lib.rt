@@ -39,7 +39,7 @@ pub fn put_figures(numbers: &mut [u64], place: usize, f: Figures)
     numbers[4 * place + 3] = d.0;
 }
 
-// A sum with one element's figures more.
+// Sums with an element's old or new figures more.
 fn joined(x: Figures, y: Figures) -> Figures
     requires { ⌜ FiguresBelow x mostSum × FiguresFit y ⌝ }
     ensures { λ r. ⌜ r ≡ joinedInflow x y ⌝ }
@@ -60,8 +60,8 @@ fn joined(x: Figures, y: Figures) -> Figures
     }
 }
 
-// The figures of one element added to the sums at a place.
-fn add_figures(numbers: &mut [u64], place: usize, f: Figures)
+// Figures added to the sums at a place.
+pub fn add_figures(numbers: &mut [u64], place: usize, f: Figures)
     requires { ⌜ (4 * place + 3 < length (now numbers)) × (FiguresBelow (figuresAt (now numbers) place) mostSum × FiguresFit f) ⌝ }
     ensures { λ _. ⌜ now (numbers .exit) ≡ put (now (numbers .entry)) place (joinedInflow (figuresAt (now (numbers .entry)) place) f) ⌝ }
 {

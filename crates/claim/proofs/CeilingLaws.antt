@@ -4,7 +4,7 @@ use mathlib.Core.Path.{_≡_, subst}
 use Rattle.units.specs.Units.{C}
 use Rattle.units.proofs.UnderLaws.{Under, first-under}
 use Rattle.method.specs.declared.Figures.{Figures}
-use Rattle.method.specs.Inflow.{inflowNumbers}
+use Rattle.method.specs.Inflow.{reachInflow, inflowNumbers}
 use Rattle.elements.specs.Kinds.{basin, reach}
 use Rattle.elements.proofs.KindLaws.{by-basin, by-reach}
 use Rattle.table.specs.Tables.{TableValues}
@@ -21,6 +21,6 @@ module _
   unfolding elementNumbers storedNumbers inflowNumbers
   own-under k = first-under _ _ (subst Under (by-basin (t .element i .kind) _ _ _ _ k) (element-part t own o old i (t .elements) l u)) .0
 
-  pub above-under : t .element i .kind ≡ reach → aboveOf t own o old i .discharge .0 ≤ C
+  pub above-under : t .element i .kind ≡ reach → reachInflow (aboveOf t own o old i) .discharge .0 ≤ C
   unfolding elementNumbers storedNumbers inflowNumbers
   above-under k = first-under _ _ (subst Under (by-reach (t .element i .kind) _ _ _ _ k) (element-part t own o old i (t .elements) l u)) .0

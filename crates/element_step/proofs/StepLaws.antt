@@ -13,7 +13,7 @@ use Rattle.method.specs.declared.Figures.{Figures}
 use Rattle.method.specs.declared.FiguresAnswer.{FiguresAnswer}
 use Rattle.method.specs.declared.FiguresAnswer.the-variants.{Accepted, Refused}
 use Rattle.method.specs.Figures.{variance, figureNumbers, figuresAnswer, FiguresFit}
-use Rattle.method.specs.Inflow.{inflowAnswer}
+use Rattle.method.specs.Inflow.{reachInflow, inflowAnswer}
 use Rattle.method.specs.Routing.{routedDischarge, routingAnswer}
 use Rattle.method.proofs.FiguresLaws.{figures-under}
 use Rattle.routing.specs.Parts.{partsAnswer, routedAnswer}
@@ -95,11 +95,11 @@ module _ (H : ℕ) (e : Element) (own : Figures) (o : Observation) (above old : 
   unfolding elementNumbers
   basin-judged k = by-basin (e .kind) _ _ _ _ k
 
-  reach-steps : e .kind ≡ reach → elementStep H e own o above old ≡ stored H e o above old
+  reach-steps : e .kind ≡ reach → elementStep H e own o above old ≡ stored H e o (reachInflow above) old
   unfolding elementStep
   reach-steps k = by-reach (e .kind) _ _ _ _ k
 
-  reach-judged : e .kind ≡ reach → elementNumbers H e own o above old ≡ storedNumbers H e o above old
+  reach-judged : e .kind ≡ reach → elementNumbers H e own o above old ≡ storedNumbers H e o (reachInflow above) old
   unfolding elementNumbers
   reach-judged k = by-reach (e .kind) _ _ _ _ k
 
@@ -110,6 +110,11 @@ module _ (H : ℕ) (e : Element) (own : Figures) (o : Observation) (above old : 
   dam-judged : e .kind ≡ dam → elementNumbers H e own o above old ≡ figureNumbers own
   unfolding elementNumbers
   dam-judged k = by-dam (e .kind) _ _ _ _ k
+
+-- a dam's figures are in their ranges
+pub released-fit : (e : Element) (release : ℕ) → release ≤ C → e .«system_noise» .0 ≤ C → FiguresFit (released e release)
+unfolding released
+released-fit e release q w = record { discharge = q; dischargeMargin = omega arith; variance = w; varianceMargin = omega arith }
 
 -- so what it answers
 module _ (H : ℕ) (e : Element) (intake : Intake) (old : Figures) where
@@ -138,14 +143,9 @@ module _ (H : ℕ) (e : Element) (intake : Intake) (old : Figures) where
   unfolding elementAnswer storedAnswer
   basin-answered k l = rw (l, basin-judged H e own o above old k, basin-steps H e own o above old k, own-basin k)
 
-  pub reach-answered : e .kind ≡ reach → storedAnswer H e o (intake .above) old ≡ elementAnswer H e intake old
+  pub reach-answered : e .kind ≡ reach → storedAnswer H e o (reachInflow (intake .above)) old ≡ elementAnswer H e intake old
   unfolding elementAnswer storedAnswer
   reach-answered k = rw (reach-judged H e own o above old k, reach-steps H e own o above old k)
-
-  -- a dam's figures are in their ranges
-  released-fit : intake .own ≤ C → e .«system_noise» .0 ≤ C → FiguresFit (released e (intake .own))
-  unfolding released
-  released-fit q w = record { discharge = q; dischargeMargin = omega arith; variance = w; varianceMargin = omega arith }
 
   pub dam-answered :
       e .kind ≡ dam
@@ -154,7 +154,7 @@ module _ (H : ℕ) (e : Element) (intake : Intake) (old : Figures) where
       → (accepted (released e (intake .own)) ≡ elementAnswer H e intake old) × FiguresFit (released e (intake .own))
   unfolding elementAnswer
   dam-answered k q w =
-      let fit = released-fit q w in (
+      let fit = released-fit e (intake .own) q w in (
         rw (dam-judged H e own o above old k, dam-steps H e own o above old k, own-dam k) (under-accepted _ _ (figures-under _ fit)),
         fit,
       )

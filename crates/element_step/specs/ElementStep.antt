@@ -1,10 +1,11 @@
--- Document 01, One step, and document 02, M-100: what one element takes in, how it moves, how a reading corrects it, what a dam lets out.
+-- Document 01, One step, and document 02, M-100 and M-103: what one element takes in, how it moves, how a reading corrects it, what a dam
+-- lets out.
 use Prim.Native.Nat.{ℕ}
 use mathlib.Core.List.{List, [], _++_}
 use Rattle.weighting.specs.Estimates.{estimate}
 use Rattle.method.specs.declared.Figures.{Figures}
 use Rattle.method.specs.Figures.{figures, figureNumbers}
-use Rattle.method.specs.Inflow.{noInflow, inflowNumbers}
+use Rattle.method.specs.Inflow.{noInflow, reachInflow, inflowNumbers}
 use Rattle.method.specs.Routing.{routed, routingNumbers}
 use Rattle.method.specs.Correction.{corrected, correctionNumbers}
 use Rattle.elements.specs.declared.Element.{Element}
@@ -33,10 +34,11 @@ moved H e inflow old = routed H (e .«system_noise» .0) inflow old
 unfoldable pub stored : ℕ → Element → Observation → Figures → Figures → Figures
 stored H e o inflow old = correctedBy o (moved H e inflow old)
 
--- the new figures of any element, from what it has of its own, an observation, what drains into it, and its old figures: a basin takes its
--- own inflow, a reach what drains in; a dam lets out what it has of its own, M-100: "water draining into it ends there"
+-- the new figures of any element, from what it has of its own, an observation, the sums of what drains into it, and its old figures: a
+-- basin takes its own inflow, a reach that of the sums; a dam lets out what it has of its own, M-100: "water draining into it ends there"
 unfoldable pub elementStep : ℕ → Element → Figures → Observation → Figures → Figures → Figures
-elementStep H e own o above old = byKind (e .kind) (stored H e o own old) (stored H e o above old) own noInflow
+elementStep H e own o above old =
+    byKind (e .kind) (stored H e o own old) (stored H e o (reachInflow above) old) own noInflow
 
 -- 16: "Some inflow, inflow variance, discharge or variance of this call, before or after correction, or the margin of any of
 -- these or of a blend on the way", of one element
@@ -51,6 +53,8 @@ moveNumbers H e o inflow old =
 unfoldable pub storedNumbers : ℕ → Element → Observation → Figures → Figures → List ℕ
 storedNumbers H e o inflow old = inflowNumbers inflow ++ moveNumbers H e o inflow old
 
--- M-100: "a dam has no inflow, for rule 16 either": its discharge, its variance and their margins alone
+-- the inflow of a reach is the half, so that the sums are not judged; M-100: "a dam has no inflow, for rule 16 either": its discharge, its
+-- variance and their margins alone
 unfoldable pub elementNumbers : ℕ → Element → Figures → Observation → Figures → Figures → List ℕ
-elementNumbers H e own o above old = byKind (e .kind) (storedNumbers H e o own old) (storedNumbers H e o above old) (figureNumbers own) []
+elementNumbers H e own o above old =
+    byKind (e .kind) (storedNumbers H e o own old) (storedNumbers H e o (reachInflow above) old) (figureNumbers own) []

@@ -4,6 +4,7 @@ ghost use mathlib.Core.Logic.{_≢_};
 ghost use mathlib.Core.Path.{_≡_};
 ghost use Prim.Native.Nat.{_≤_};
 ghost use Rattle.method.specs.Figures.{figuresAnswer, FiguresFit, AnsweredFiguresFit};
+ghost use Rattle.method.specs.Inflow.{reachInflow};
 ghost use Rattle.inflow.specs.Basin.{basinInflow};
 ghost use Rattle.elements.specs.Kinds.{dam};
 ghost use Rattle.record.specs.declared.Observation.the-variants.{Nothing};
@@ -28,7 +29,7 @@ use units::Discharge;
 use units::Variance;
 
 // What an element takes in: its own number (a basin's inflow from rain, a dam's release, 0 for a reach), the number of the lead (0 at a
-// step), what drains in, and what its gauge observed.
+// step), the sums of what drains in, and what its gauge observed.
 pub struct Intake {
     pub own: u64,
     pub lead: u64,
@@ -66,7 +67,7 @@ fn step_basin(e: Element, weight: u64, rain_inflow: u64, old: Figures) -> Figure
 // A reach at a step: what drains in, judged, and the move with it.
 fn step_reach(e: Element, weight: u64, above: Figures, old: Figures) -> FiguresAnswer
     requires { ⌜ MoveInRange e weight old ⌝ }
-    ensures { λ r. ⌜ (figuresAnswer r ≡ movedAnswer weight e above old) × AnsweredFiguresFit r ⌝ }
+    ensures { λ r. ⌜ (figuresAnswer r ≡ movedAnswer weight e (reachInflow above) old) × AnsweredFiguresFit r ⌝ }
 {
     let noise = e.system_noise;
     let FiguresAnswer::Accepted(inflow) = reach_inflow(above) else {
@@ -135,7 +136,7 @@ fn lead_basin(e: Element, weight: u64, rain_inflow: u64, lead: u64, old: Figures
 // A reach at a lead.
 fn lead_reach(e: Element, weight: u64, above: Figures, old: Figures) -> FiguresAnswer
     requires { ⌜ MoveInRange e weight old ⌝ }
-    ensures { λ r. ⌜ (figuresAnswer r ≡ movedAnswer weight e above old) × AnsweredFiguresFit r ⌝ }
+    ensures { λ r. ⌜ (figuresAnswer r ≡ movedAnswer weight e (reachInflow above) old) × AnsweredFiguresFit r ⌝ }
 {
     let noise = e.system_noise;
     let FiguresAnswer::Accepted(inflow) = reach_inflow(above) else {

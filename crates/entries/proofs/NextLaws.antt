@@ -18,7 +18,7 @@ use Rattle.units.specs.Ceiling.{somePasses, underCeiling}
 use Rattle.units.proofs.UnderLaws.{Under, first-under, parts-under}
 use Rattle.method.specs.declared.Figures.{Figures}
 use Rattle.method.specs.Figures.{FiguresFit}
-use Rattle.method.specs.Inflow.{noInflow, inflowNumbers}
+use Rattle.method.specs.Inflow.{noInflow, reachInflow, inflowNumbers}
 use Rattle.method.proofs.FiguresLaws.{under-figures}
 use Rattle.method.specs.Routing.{routed, varianceNumbers, routingNumbers}
 use Rattle.method.specs.Correction.{corrected, correctionNumbers}
@@ -111,7 +111,7 @@ element-fit :
 unfolding elementNumbers elementStep
 element-fit H e own o above old =
     kind-both (λ (ns : List ℕ) (f : Figures). Under ns → FiguresFit f) (e .kind) (λ _. stored-fit H e o own old)
-    (λ _. stored-fit H e o above old) (λ _. under-figures own) (λ _ _ _ _. nothing-fits)
+    (λ _. stored-fit H e o (reachInflow above) old) (λ _. under-figures own) (λ _ _ _ _. nothing-fits)
 
 -- the new figures of an element, where the numbers of the first m pass rule 16
 pub new-fit :

@@ -13,13 +13,13 @@ use Rattle.weighting.specs.Estimates.{estimate}
 use Rattle.method.specs.Figures.{discharge}
 use Rattle.weighting.specs.Weight.{weight}
 use Rattle.weighting.specs.Blend.{blended}
-use Rattle.method.specs.Inflow.{stepInflow, noInflow, joinedInflow, forecastInflow}
+use Rattle.method.specs.Inflow.{stepInflow, noInflow, joinedInflow, oldAndNewOutflow, reachInflow, forecastInflow}
 use Rattle.method.specs.Routing.{routedDischarge, routed}
 use Rattle.rating.specs.Rating.{rated}
 use Rattle.method.specs.Correction.{corrected}
 use Rattle.exact.specs.Fraction.{Fraction, whole, _⊗_, _≼_, Within}
 use Rattle.exact.specs.Series.{F}
-use Rattle.exact.specs.Exact.{ExactFigures, exactBlend, exactRouted, exactCorrected, exactRated, exactStepInflow, exactForecastInflow, exactNothing, exactSum}
+use Rattle.exact.specs.Exact.{ExactFigures, exactBlend, exactRouted, exactCorrected, exactRated, exactStepInflow, exactForecastInflow, exactNothing, exactSum, exactOldAndNewOutflow, exactReachInflow}
 use Rattle.exact.specs.Margins.{Tracks, Follows}
 use Rattle.exact.proofs.Tracking.{whole-tracks}
 use Rattle.exact.proofs.Weights.{Share, share, share-within, share-least, share-most}
@@ -27,7 +27,7 @@ use Rattle.exact.proofs.WeightNear.{weight-share}
 use Rattle.exact.proofs.BlendNear.{blend-tracks}
 use Rattle.exact.proofs.CorrectionNear.{corrected-follows}
 use Rattle.exact.proofs.RatingNear.{Answered, rated-tracks}
-use Rattle.exact.proofs.InflowNear.{step-inflow-follows, forecast-inflow-follows, no-inflow-follows, joined-inflow-follows}
+use Rattle.exact.proofs.InflowNear.{step-inflow-follows, forecast-inflow-follows, no-inflow-follows, joined-inflow-follows, old-and-new-follows, reach-inflow-follows}
 use Rattle.exact.proofs.RoutingNear.{routed-follows}
 use Rattle.exact.proofs.MarginGrowth.{blend-growth}
 
@@ -93,6 +93,18 @@ no-inflow-near = no-inflow-follows
 pub joined-inflow-near :
     {x y : Figures} {x* y* : ExactFigures} → Follows x x* → Follows y y* → Follows (joinedInflow x y) (exactSum x* y*)
 joined-inflow-near = joined-inflow-follows
+
+-- and so does what an element lets out of its old and its new figures
+pub old-and-new-near :
+    {old new : Figures} {old* new* : ExactFigures}
+    → Follows old old*
+    → Follows new new*
+    → Follows (oldAndNewOutflow old new) (exactOldAndNewOutflow old* new*)
+old-and-new-near = old-and-new-follows
+
+-- and a reach's inflow from the sums of these, half of the discharges, rounded down
+pub reach-inflow-near : {x : Figures} {x* : ExactFigures} → Follows x x* → Follows (reachInflow x) (exactReachInflow x*)
+reach-inflow-near = reach-inflow-follows
 
 -- an element's move follows the move in fractions
 pub routing-near :

@@ -1,6 +1,6 @@
 -- Estimates that stay within their margins of fractions, in numbers: `Near e p d` says it of the fraction p / d.
-use Prim.Native.Nat.{ℕ, _+_, _*_, _<_, _≤_}
-use native.Mathlib.Nat.{add-zero, mul-pos}
+use Prim.Native.Nat.{ℕ, _+_, _*_, _/_, _<_, _≤_}
+use native.Mathlib.Nat.{add-zero, mul-pos, mul-le-mul-right}
 use native.Mathlib.Omega.{arith}
 use Rattle.weighting.specs.declared.Estimate.{Estimate}
 use Rattle.weighting.specs.Estimates.{estimate}
@@ -129,3 +129,19 @@ sum-tracks {e} {e′} {x} {y} t u = go (both t u)
 pub plus-tracks :
     {e : Estimate} {x : Fraction} (k : ℕ) → Tracks e x → Tracks (estimate (e .value + k) (e .margin)) (x ⊕ whole k)
 plus-tracks k t = rw add-zero at (sum-tracks t (whole-tracks k 0))
+
+-- half of it, rounded down: the value's half and the margin's half each lose at most one half
+half-near : (e : Estimate) (p d : ℕ) → Near e p d → Near (estimate (e .value / 2) (e .margin / 2 + 1)) p (d * 2)
+half-near e p d h =
+    let low : e .value / 2 * 2 ≤ e .value = omega arith in
+    let high : e .value ≤ e .value / 2 * 2 + 1 = omega arith in
+    let most : e .margin ≤ e .margin / 2 * 2 + 1 = omega arith in
+    omega (arith, h, mul-le-mul-right d low, mul-le-mul-right d high, mul-le-mul-right d most)
+
+pub half-tracks : {e : Estimate} {x : Fraction} → Tracks e x → Tracks (estimate (e .value / 2) (e .margin / 2 + 1)) (x ⊘ whole 2)
+half-tracks {e} {x} t = go (known t)
+  where
+    go : Known e x → Tracks (estimate (e .value / 2) (e .margin / 2 + 1)) (x ⊘ whole 2)
+    go k =
+        tracks (is-also (is-quotient (k .is) (is-whole 2) (omega arith)) (mul-pos (k .is .some) (omega arith)) (omega arith))
+        (half-near e (k .p) (k .d) (k .near))

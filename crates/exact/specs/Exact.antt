@@ -1,4 +1,4 @@
--- Document 01, The run in fractions: the rules for one element.
+-- Document 01, The run in fractions, and document 02, M-103: the rules for one element.
 use Prim.Native.Nat.{ℕ, _*_}
 use mathlib.Core.Bool.{cond}
 use mathlib.Core.List.{List}
@@ -66,3 +66,13 @@ exactNothing = record { discharge = whole 0; variance = whole 0 }
 
 unfoldable pub exactSum : ExactFigures → ExactFigures → ExactFigures
 exactSum x y = record { discharge = x .discharge ⊕ y .discharge; variance = x .variance ⊕ y .variance }
+
+-- M-103: "The run in fractions takes the unrounded half sum", of old and new outflows; the variance is that of the new ones
+unfoldable pub exactOldOutflow : ExactFigures → ExactFigures
+exactOldOutflow old = record { discharge = old .discharge; variance = whole 0 }
+
+unfoldable pub exactOldAndNewOutflow : ExactFigures → ExactFigures → ExactFigures
+exactOldAndNewOutflow old new = exactSum (exactOldOutflow old) new
+
+unfoldable pub exactReachInflow : ExactFigures → ExactFigures
+exactReachInflow above = record { discharge = above .discharge ⊘ whole 2; variance = above .variance }

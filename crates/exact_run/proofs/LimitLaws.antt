@@ -13,7 +13,7 @@ use Rattle.sizes.specs.Sizes.{mostElements, mostLeads}
 use Rattle.units.specs.Units.{C, S}
 use Rattle.method.specs.declared.Figures.{Figures}
 use Rattle.method.specs.Figures.{discharge}
-use Rattle.method.specs.Inflow.{noInflow, joinedInflow}
+use Rattle.method.specs.Inflow.{noInflow, joinedInflow, oldOutflow, oldAndNewOutflow, reachInflow}
 use Rattle.method.specs.Routing.{routed}
 use Rattle.exact.proofs.Theorems.{routing-margin-growth}
 use Rattle.elements.specs.Kinds.{basin, reach}
@@ -73,7 +73,7 @@ module _
     (b : TableBounds t) (few : suc n ≤ 10_000 + mostLeads)
     (old-fits : (i : ℕ) → i < t .elements → old i .discharge .0 ≤ C)
     (own-fits : (i : ℕ) → i < t .elements → t .element i .kind ≡ basin → own i .discharge .0 ≤ C)
-    (above-fits : (i : ℕ) → i < t .elements → t .element i .kind ≡ reach → aboveOf t own o old i .discharge .0 ≤ C)
+    (above-fits : (i : ℕ) → i < t .elements → t .element i .kind ≡ reach → reachInflow (aboveOf t own o old i) .discharge .0 ≤ C)
     (own-margin : (i : ℕ) → i < t .elements → marginOf (own i) ≤ 1)
     (readings-stay : (k : ℕ) → hasReading k ≡ true → hasReading′ k ≡ true)
     (not-observed : (i : ℕ) → i < t .elements → hasReading′ (i + 1) ≡ false → o i ≡ Nothing)
@@ -110,6 +110,13 @@ module _
   abbrev done : ℕ → List (ℕ × Figures)
   done i = walked noInflow joinedInflow down (networkCell t own o) networkOutflow old i
 
+  -- the limit before, where no reading has come in by now
+  old-low : (i : ℕ) → i < many → WithoutReading (suc i) → marginOf (old i) ≤ 16 * n * atOrAbove many down (suc i)
+  old-low i l q =
+      subst (λ (k : ℕ). NoReading many down hasReading k → marginOf (old i) ≤ 16 * n * atOrAbove many down k) (add-one i)
+      (before i l) (no-reading-before many down hasReading hasReading′ (suc i) readings-stay q)
+
+  -- the old and the new margins together are at most twice the new limits
   drained-low :
       (k : ℕ)
       → 1 ≤ k
@@ -118,24 +125,21 @@ module _
       → (i : ℕ)
       → i ≤ many
       → ((j : ℕ) → j < i → Low j)
-      → marginOf (drained noInflow joinedInflow k (done i)) ≤ 16 * suc n * aboveBy k i
-  unfolding drained walked networkOutflow noInflow joinedInflow aboveBy total same one next newFigures newCell gathered
+      → marginOf (drained noInflow joinedInflow k (done i)) ≤ 2 * (16 * suc n * aboveBy k i)
+  unfolding drained walked networkOutflow oldOutflow oldAndNewOutflow noInflow joinedInflow aboveBy total same one next newFigures newCell gathered
   drained-low k h l q zero m low = omega arith
   drained-low k h l q (suc i) m low =
       go (drained-low k h l q i (omega arith) (λ j u. low j (omega arith))) (eqb (down i) k) refl
     where
       go :
-          marginOf (drained noInflow joinedInflow k (done i)) ≤ 16 * suc n * aboveBy k i
+          marginOf (drained noInflow joinedInflow k (done i)) ≤ 2 * (16 * suc n * aboveBy k i)
           → (drains : Bool)
           → eqb (down i) k ≡ drains
-          → marginOf (cond drains (joinedInflow (drained noInflow joinedInflow k (done i)) (newFigures t own o old i)) (drained noInflow joinedInflow k (done i)))
-          ≤ 16 * suc n * (aboveBy k i + cond drains 1 0 * atOrAbove many down (suc i))
+          → marginOf (cond drains (joinedInflow (drained noInflow joinedInflow k (done i)) (oldAndNewOutflow (old i) (newFigures t own o old i))) (drained noInflow joinedInflow k (done i)))
+          ≤ 2 * (16 * suc n * (aboveBy k i + cond drains 1 0 * atOrAbove many down (suc i)))
       go so-far true e =
-          omega (
-            arith,
-            so-far,
-            low i (omega arith) (no-reading-above many down down-most down-later hasReading′ (suc i) k h l (eqb-true (down i) k e) q),
-          )
+          let none = no-reading-above many down down-most down-later hasReading′ (suc i) k h l (eqb-true (down i) k e) q in
+          omega (arith, so-far, low i (omega arith) none, old-low i m none)
       go so-far false e = omega (arith, so-far)
 
   -- an element is itself at or above it
@@ -168,11 +172,6 @@ module _
           subst (λ (k : ℕ). hasReading′ k ≡ false) (sym (add-one i))
           (no-reading-here many down down-most down-later hasReading′ (suc i) (omega arith) l q)
 
-      old-low : marginOf (old i) ≤ 16 * n * atOrAbove many down (suc i)
-      old-low =
-          subst (λ (k : ℕ). NoReading many down hasReading k → marginOf (old i) ≤ 16 * n * atOrAbove many down k) (add-one i)
-          (before i l) (no-reading-before many down hasReading hasReading′ (suc i) readings-stay q)
-
       go :
           (c : ℕ)
           → atOrAbove many down (suc i) ≡ c
@@ -181,28 +180,28 @@ module _
       go (suc d) e =
           move-limit (weightOf t i) n d inflow (old i) (weight-of-most t i) few
           (omega (arith, above-most many down (suc i), b .elementsMost)) fits (old-fits i l) (above d e)
-          (subst (λ (c : ℕ). marginOf (old i) ≤ 16 * n * c) e old-low)
+          (subst (λ (c : ℕ). marginOf (old i) ≤ 16 * n * c) e (old-low i l q))
           (t .element i .«system_noise» .0)
 
-  -- each kind: a basin's own inflow has margin 1, a reach takes what is gathered, and a dam lets out its own
+  -- each kind: a basin's own inflow has margin 1, a reach takes half of what is gathered, with 1 more, and a dam lets out its own
   cell-low : (i : ℕ) → i < many → ((j : ℕ) → j < i → Low j) → Low i
-  unfolding newFigures newCell networkCell elementStep aboveOf gathered aboveBy noInflow
+  unfolding newFigures newCell networkCell elementStep aboveOf gathered aboveBy noInflow reachInflow
   cell-low i l low q =
       kind-cases (λ (x : Figures). marginOf x ≤ 16 * suc n * atOrAbove many down (suc i)) (t .element i .kind)
       (λ k. stored-low i l q (own i) (own-fits i l k) (λ d e. omega (arith, own-margin i l)))
-      (λ k. stored-low i l q (aboveOf t own o old i) (above-fits i l k) (λ d e. omega (arith, gathered-low d e)))
+      (λ k. stored-low i l q (reachInflow (aboveOf t own o old i)) (above-fits i l k) (λ d e. omega (arith, gathered-low d e)))
       (λ _. omega (arith, own-margin i l, mul-le-mul-left (16 * suc n) (fewer i l)))
       (λ _ _ _. omega arith)
     where
       at-most : (d : ℕ) → atOrAbove many down (suc i) ≡ suc d → aboveBy (suc i) i ≤ d
       at-most d e = omega (arith, fewer i l)
 
-      gathered-by : marginOf (aboveOf t own o old i) ≤ 16 * suc n * aboveBy (suc i) i
+      gathered-by : marginOf (aboveOf t own o old i) ≤ 2 * (16 * suc n * aboveBy (suc i) i)
       gathered-by =
-          subst (λ (k : ℕ). marginOf (drained noInflow joinedInflow k (done i)) ≤ 16 * suc n * aboveBy (suc i) i)
+          subst (λ (k : ℕ). marginOf (drained noInflow joinedInflow k (done i)) ≤ 2 * (16 * suc n * aboveBy (suc i) i))
           (sym (add-one i)) (drained-low (suc i) (omega arith) l q i (omega arith) low)
 
-      gathered-low : (d : ℕ) → atOrAbove many down (suc i) ≡ suc d → marginOf (aboveOf t own o old i) ≤ 16 * suc n * d
+      gathered-low : (d : ℕ) → atOrAbove many down (suc i) ≡ suc d → marginOf (aboveOf t own o old i) ≤ 2 * (16 * suc n * d)
       gathered-low d e =
           omega (
             arith,

@@ -6,7 +6,7 @@ use Rattle.method.specs.declared.Figures.{Figures}
 use Rattle.method.specs.Inflow.{noInflow, joinedInflow}
 use Rattle.exact.specs.Exact.{ExactFigures, exactNothing, exactSum}
 use Rattle.exact.specs.Margins.{Follows}
-use Rattle.exact.proofs.Theorems.{correction-near, no-inflow-near, joined-inflow-near, routing-near}
+use Rattle.exact.proofs.Theorems.{correction-near, no-inflow-near, joined-inflow-near, old-and-new-near, reach-inflow-near, routing-near}
 use Rattle.elements.specs.declared.Element.{Element}
 use Rattle.elements.proofs.KindLaws.{by-basin, by-reach, kind-both}
 use Rattle.table.specs.Tables.{TableValues}
@@ -69,7 +69,7 @@ step-near t own o old own* o* old* b hown ho hold =
         let H = weight (t .step) (e .lag) in
         kind-both Follows (e .kind)
         (λ k. rw (by-basin (e .kind) H H 0 0 k) (stored-follows (t .step) e (b .stepLeast) (lag (λ d. omega (arith, k, d))) (ho i l) (hown i l) (hold i l)))
-        (λ k. rw (by-reach (e .kind) H H 0 0 k) (stored-follows (t .step) e (b .stepLeast) (lag (λ d. omega (arith, k, d))) (ho i l) g (hold i l)))
+        (λ k. rw (by-reach (e .kind) H H 0 0 k) (stored-follows (t .step) e (b .stepLeast) (lag (λ d. omega (arith, k, d))) (ho i l) (reach-inflow-near g) (hold i l)))
         (λ _. hown i l) (λ _ _ _. no-inflow-near)
 
     out :
@@ -77,4 +77,4 @@ step-near t own o old own* o* old* b hown ho hold =
         → i < t .elements
         → Follows (newCell noInflow joinedInflow (networkDown t) (networkCell t own o) networkOutflow old i) (newCell exactNothing exactSum (networkDown t) (exactCell t own* o*) exactOutflow old* i)
         → Follows (outflow noInflow joinedInflow (networkDown t) (networkCell t own o) networkOutflow old i) (outflow exactNothing exactSum (networkDown t) (exactCell t own* o*) exactOutflow old* i)
-    out i l h = h
+    out i l h = old-and-new-near (hold i l) h

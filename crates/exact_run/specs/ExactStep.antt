@@ -5,7 +5,7 @@ use mathlib.Core.List.{List}
 use Rattle.refusal.specs.Answers.{Answer, accepted, refused}
 use Rattle.exact.specs.Fraction.{Fraction, whole}
 use Rattle.exact.specs.Series.{F}
-use Rattle.exact.specs.Exact.{ExactFigures, exactRouted, exactCorrected, exactRated, exactStepInflow, exactNothing, exactSum}
+use Rattle.exact.specs.Exact.{ExactFigures, exactRouted, exactCorrected, exactRated, exactStepInflow, exactNothing, exactSum, exactOldAndNewOutflow, exactReachInflow}
 use Rattle.elements.specs.declared.Element.{Element}
 use Rattle.elements.specs.Kinds.{byKind}
 use Rattle.rating.specs.Rating.{piecesOf}
@@ -56,18 +56,19 @@ exactCorrectedBy (rated z R) x = exactCorrected R z x
 unfoldable pub exactStored : ℕ → Element → ExactObservation → ExactFigures → ExactFigures → ExactFigures
 exactStored T e o inflow old = exactCorrectedBy o (exactRouted (F T (e .lag)) (e .«system_noise» .0) inflow old)
 
--- any: a basin takes its own inflow, a reach what drains in; a dam lets out its release
+-- any: a basin takes its own inflow, a reach that of the sums of what drains in; a dam lets out its release
 unfoldable pub exactElementStep :
     ℕ → Element → ExactFigures → ExactObservation → ExactFigures → ExactFigures → ExactFigures
-exactElementStep T e own o above old = byKind (e .kind) (exactStored T e o own old) (exactStored T e o above old) own exactNothing
+exactElementStep T e own o above old =
+    byKind (e .kind) (exactStored T e o own old) (exactStored T e o (exactReachInflow above) old) own exactNothing
 
 unfoldable pub exactCell :
     TableValues → (ℕ → ExactFigures) → (ℕ → ExactObservation) → ℕ → ExactFigures → ExactFigures → ExactFigures
 exactCell t own o i above old = exactElementStep (t .step) (t .element i) (own i) (o i) above old
 
--- "the sums of the new ones of all elements draining into it": an element lets out its new figures
+-- M-103: "the sum of old and new outflows above"
 unfoldable pub exactOutflow : ℕ → ExactFigures → ExactFigures → ExactFigures
-exactOutflow i old new = new
+exactOutflow i old new = exactOldAndNewOutflow old new
 
 -- the new figures of element i, after the walk down the network
 unfoldable pub exactNewFigures :

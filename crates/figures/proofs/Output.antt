@@ -11,7 +11,7 @@ use Rattle.gauges.specs.Gauges.{offsetOf, pieceAt, gaugeAt}
 use Rattle.gauges.specs.Rules.{offsetFits, offsetZero, pieceOf, topBefore, pieceInUseFits, pieceUnused, pieceFits, curveFits, elementBefore, notOnDam, gaugeFits}
 use Rattle.lines.specs.Printed.{joined, lineFrom, elementLines, answerLines, refusalLine}
 use Rattle.method.specs.Correction.{gain, gainMargin, correctedDischarge, correctedVariance, corrected, correctionNumbers}
-use Rattle.method.specs.Inflow.{stepInflow, noInflow, joinedInflow, meanRainInflow, forecastInflow, inflowNumbers}
+use Rattle.method.specs.Inflow.{stepInflow, noInflow, joinedInflow, oldOutflow, oldAndNewOutflow, reachInflow, meanRainInflow, forecastInflow, inflowNumbers}
 use Rattle.method.specs.Routing.{routedDischarge, oldVariancePart, inflowVariancePart, routedVariance, routed, varianceNumbers, routingNumbers}
 use Rattle.network.specs.Answer.{listed, byElementAndLead, forecastFigures, spaceFits, leadsAnswer}
 use Rattle.network.specs.Forecast.{rainCount, rainSum, leadInflow, forecastOwn, leadFigures, leadNumbers}
@@ -42,5 +42,5 @@ use Rattle.weighting.specs.Weight.{turned, weight}
 use Rattle.figures.specs.Starred.{exampleInput, exampleOutput}
 
 pub whole-output : program exampleInput ≡ exampleOutput
-unfolding released ownOf correctedBy moved stored elementStep observationNumbers moveNumbers storedNumbers elementNumbers shiftedRains elementAt byKind lagFits basinFits reachFits damFits kindFits elementFits downFits startAnswer stepRules stepOnAnswer stepAnswer forecastOnAnswer forecastAnswer allBelow offsetOf pieceAt gaugeAt offsetFits offsetZero pieceOf topBefore pieceInUseFits pieceUnused pieceFits curveFits elementBefore notOnDam gaugeFits joined lineFrom elementLines answerLines refusalLine gain gainMargin correctedDischarge correctedVariance corrected correctionNumbers stepInflow noInflow joinedInflow meanRainInflow forecastInflow inflowNumbers routedDischarge oldVariancePart inflowVariancePart routedVariance routed varianceNumbers routingNumbers listed byElementAndLead forecastFigures spaceFits leadsAnswer rainCount rainSum leadInflow forecastOwn leadFigures leadNumbers layout weightOf networkDown networkCell networkOutflow aboveOf newFigures networkNumbers stepOwn observedIn noObservation stepFigures stepPut stepped stepNumbers pieceFor depth dischargeAt onPiece rated basinOf damOf countBefore rainAt releaseAt stageAt readingOf readingAt piecesOf rateAnswer observationOf acceptedObservation observationAt atElement rainOf releaseOf inputRain inputRelease inputObservation inputAt record-rules.lengthFits record-rules.versionFits rainFits releaseFits stageFits isAccepted readingFits recordRules recordBytes restAfter recordsText runText program figuresLines refusalPrinted forecastPrinted stepPrinted recordPrinted figuresFit rainsFit placeFits stateFits stepsLeft firstFigures firstPut started figuresOf rainsOf placeOf putFigures putRains putPlace changed below inUse tableIn table-rules.lengthFits table-rules.versionFits countsFit sizeFits tableRules tableOf tablePart emptyState inputAnswer digitsWithin decimal line somePasses underCeiling drained walked gathered newCell weightedMean gapOf blended turned weight
+unfolding released ownOf correctedBy moved stored elementStep observationNumbers moveNumbers storedNumbers elementNumbers shiftedRains elementAt byKind lagFits basinFits reachFits damFits kindFits elementFits downFits startAnswer stepRules stepOnAnswer stepAnswer forecastOnAnswer forecastAnswer allBelow offsetOf pieceAt gaugeAt offsetFits offsetZero pieceOf topBefore pieceInUseFits pieceUnused pieceFits curveFits elementBefore notOnDam gaugeFits joined lineFrom elementLines answerLines refusalLine gain gainMargin correctedDischarge correctedVariance corrected correctionNumbers stepInflow noInflow joinedInflow oldOutflow oldAndNewOutflow reachInflow meanRainInflow forecastInflow inflowNumbers routedDischarge oldVariancePart inflowVariancePart routedVariance routed varianceNumbers routingNumbers listed byElementAndLead forecastFigures spaceFits leadsAnswer rainCount rainSum leadInflow forecastOwn leadFigures leadNumbers layout weightOf networkDown networkCell networkOutflow aboveOf newFigures networkNumbers stepOwn observedIn noObservation stepFigures stepPut stepped stepNumbers pieceFor depth dischargeAt onPiece rated basinOf damOf countBefore rainAt releaseAt stageAt readingOf readingAt piecesOf rateAnswer observationOf acceptedObservation observationAt atElement rainOf releaseOf inputRain inputRelease inputObservation inputAt record-rules.lengthFits record-rules.versionFits rainFits releaseFits stageFits isAccepted readingFits recordRules recordBytes restAfter recordsText runText program figuresLines refusalPrinted forecastPrinted stepPrinted recordPrinted figuresFit rainsFit placeFits stateFits stepsLeft firstFigures firstPut started figuresOf rainsOf placeOf putFigures putRains putPlace changed below inUse tableIn table-rules.lengthFits table-rules.versionFits countsFit sizeFits tableRules tableOf tablePart emptyState inputAnswer digitsWithin decimal line somePasses underCeiling drained walked gathered newCell weightedMean gapOf blended turned weight
 whole-output = refl

@@ -2,10 +2,10 @@
 -- it does not reach, unless that is a dam.
 use Prim.Native.Nat.{ℕ, _+_, _<_}
 use mathlib.Core.Logic.{_≢_}
-use mathlib.Core.Path.{_≡_, refl, sym, subst}
+use mathlib.Core.Path.{_≡_, refl, sym, ap, subst}
 use native.Mathlib.Omega.{arith}
 use Rattle.method.specs.declared.Figures.{Figures}
-use Rattle.method.specs.Inflow.{noInflow, joinedInflow}
+use Rattle.method.specs.Inflow.{noInflow, joinedInflow, oldAndNewOutflow}
 use Rattle.elements.specs.Kinds.{dam}
 use Rattle.elements.proofs.KindLaws.{kind-both}
 use Rattle.table.specs.Tables.{TableValues}
@@ -52,8 +52,11 @@ module _ (t : TableValues) (from : ℕ) where
             (i : ℕ)
             → i < t .elements
             → SameCell i (newFigures t own o old i) (newFigures t own* o* old i)
-            → SameSum (t .element i .down) (newFigures t own o old i) (newFigures t own* o* old i)
+            → SameSum (t .element i .down) (oldAndNewOutflow (old i) (newFigures t own o old i)) (oldAndNewOutflow (old i) (newFigures t own* o* old i))
         out i l c =
             record {
-              at = λ k e n r. c .at (λ (reached : Reached t from (i + 1)). r (subst (Reached t from) (sym e) (below reached e n)));
+              at =
+                  λ k e n r.
+                  ap (oldAndNewOutflow (old i))
+                  (c .at (λ (reached : Reached t from (i + 1)). r (subst (Reached t from) (sym e) (below reached e n))));
             }

@@ -1,11 +1,12 @@
-// The inflow of an element: a basin's from rain, a reach's from what drains in.
+// The inflow of an element: a basin's from rain, a reach's from what drains in; what old figures bring to it.
 ghost use mathlib.Core.Path.{_≡_};
-ghost use Prim.Native.Nat.{_≤_};
+ghost use Prim.Native.Nat.{_/_, _≤_};
 ghost use Rattle.method.specs.Figures.{figuresAnswer, AnsweredFiguresFit};
-ghost use Rattle.method.specs.Inflow.{meanRainInflow, inflowAnswer};
+ghost use Rattle.method.specs.Inflow.{meanRainInflow, oldOutflow, reachInflow, inflowAnswer};
 ghost use Rattle.inflow.specs.Basin.{basinInflow};
 use method::Figures;
 use method::FiguresAnswer;
+use units::Variance;
 use weighting::Estimate;
 
 // The inflow from the mean of the last rains: 5 × sum × area × f / (18 × count), each divisor a constant.
@@ -39,9 +40,38 @@ pub fn basin_inflow(rain_inflow: u64, lead: u64, noise: u64) -> FiguresAnswer
     )
 }
 
-// The figures of a reach's inflow: those of all elements that drain into it, summed.
-pub fn reach_inflow(above: Figures) -> FiguresAnswer
-    ensures { λ r. ⌜ (figuresAnswer r ≡ inflowAnswer above) × AnsweredFiguresFit r ⌝ }
+// What an element's old figures bring to the sums below it: the discharge and its margin.
+pub fn old_outflow(old: Figures) -> Figures
+    ensures { λ r. ⌜ r ≡ oldOutflow old ⌝ }
 {
-    Figures::new(above.discharge_estimate(), above.variance_estimate())
+    let discharge = old.discharge;
+    let discharge_margin = old.discharge_margin;
+    Figures {
+        discharge,
+        discharge_margin,
+        variance: Variance(0),
+        variance_margin: Variance(0),
+    }
+}
+
+// Half a sum, rounded down.
+fn half(sum: u64) -> u64
+    ensures { λ r. ⌜ r ≡ sum / 2 ⌝ }
+{
+    sum / 2
+}
+
+// The figures of a reach's inflow, of the sums of what drains into it: half of the old and new discharges, the new variances.
+pub fn reach_inflow(above: Figures) -> FiguresAnswer
+    ensures { λ r. ⌜ (figuresAnswer r ≡ inflowAnswer (reachInflow above)) × AnsweredFiguresFit r ⌝ }
+{
+    let sum = above.discharge;
+    let margins = above.discharge_margin;
+    Figures::new(
+        Estimate {
+            value: half(sum.0),
+            margin: half(margins.0) + 1,
+        },
+        above.variance_estimate(),
+    )
 }

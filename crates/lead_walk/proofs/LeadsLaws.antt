@@ -8,6 +8,7 @@ use native.Mathlib.Decide.{decLe}
 use native.Mathlib.Numerals.{add-one}
 use native.Mathlib.Omega.{arith}
 use lib.ListN.{length}
+use Rattle.sizes.specs.Sizes.{mostLeads}
 use Rattle.refusal.specs.declared.Refusal.{Refusal}
 use Rattle.refusal.specs.declared.Refusal.the-variants.{AboveCeiling}
 use Rattle.refusal.specs.declared.Verdict.the-variants as of-verdict
@@ -19,18 +20,15 @@ use Rattle.method.specs.declared.Figures.{Figures}
 use Rattle.method.specs.declared.FiguresAnswer.{FiguresAnswer}
 use Rattle.method.specs.declared.FiguresAnswer.the-variants.{Accepted, Refused}
 use Rattle.method.specs.Figures.{figuresAnswer, FiguresFit}
-use Rattle.method.specs.Inflow.{joinedInflow}
-use Rattle.elements.specs.Kinds.{dam}
-use Rattle.element_step.specs.ElementStep.{released}
-use Rattle.answer_space.specs.Places.{figuresAt, put, mostSum, FiguresBelow, PlacesReady}
-use Rattle.answer_space.proofs.PlacesLaws.{put-length, put-here, put-other}
+use Rattle.method.specs.Inflow.{joinedInflow, oldOutflow, oldAndNewOutflow}
+use Rattle.answer_space.specs.Places.{figuresAt, added, mostSumBefore, FiguresBelow}
 use Rattle.one_lead.specs.declared.ElementInput.{ElementInput}
 use Rattle.one_lead.specs.declared.Lead.{Lead}
 use Rattle.one_lead.specs.Leads.{leadStep, leadStepNumbers}
-use Rattle.one_lead.specs.Worked.{stepLead, InputInRange, LeadReady, LeadWorked, DamWorked}
-use Rattle.one_lead.proofs.LeadLaws.{released-fits}
+use Rattle.one_lead.specs.Worked.{stepLead, InputInRange, LeadReady, LeadWorked}
+use Rattle.one_lead.proofs.LeadLaws.{step-worked}
 use Rattle.lead_walk.specs.Leads.{figuresAfter, numbersAfter}
-use Rattle.lead_walk.specs.Worked.{Apart, drainedAt, LeadsDone, DamHeld, ElementWorked}
+use Rattle.lead_walk.specs.Worked.{Apart, LeadPlaces, drainedAt, LeadsDone, ElementWorked}
 
 -- a lead, as the code has it
 abbrev leadAt : ElementInput → ℕ → ℕ → ℕ → Lead
@@ -62,7 +60,7 @@ module _ (c : ElementInput) (first : Figures) (here below : ℕ) (before : List 
   numbers = numbersAfter c first (drainedAt before here)
 
   -- no lead yet
-  pub done-begin : FiguresFit first → LeadsDone c first here below 0 before before
+  done-begin : FiguresFit first → LeadsDone c first here below 0 before before
   unfolding figuresAfter numbersAfter
   done-begin fits =
       record {
@@ -76,7 +74,7 @@ module _ (c : ElementInput) (first : Figures) (here below : ℕ) (before : List 
       start : (l : ℕ) → l ≡ 0 → FiguresFit (along l)
       start l e = rw e fits
 
-  pub first-is : first ≡ along 0
+  first-is : first ≡ along 0
   unfolding figuresAfter
   first-is = refl
 
@@ -91,7 +89,7 @@ module _ (c : ElementInput) (first : Figures) (here below : ℕ) (before : List 
     here-apart : (l : ℕ) → l < m → here + m ≢ below + l
     here-apart l k e = ⊎-elim (λ a. omega arith) (λ b. omega arith) apart
 
-    pub places-apart : below + m ≢ here + m
+    places-apart : below + m ≢ here + m
     places-apart e = ⊎-elim (λ a. omega arith) (λ b. omega arith) apart
 
     above-is : figuresAt now (here + m) ≡ drainedAt before here m
@@ -100,8 +98,8 @@ module _ (c : ElementInput) (first : Figures) (here below : ℕ) (before : List 
     below-is : figuresAt now (below + m) ≡ figuresAt before (below + m)
     below-is = h .others (below + m) own-apart (λ l k e. omega arith)
 
-    pub below-small : FiguresBelow (figuresAt before (below + m)) mostSum → FiguresBelow (figuresAt now (below + m)) mostSum
-    below-small s = subst (λ (f : Figures). FiguresBelow f mostSum) (sym below-is) s
+    below-small : FiguresBelow (figuresAt before (below + m)) mostSumBefore → FiguresBelow (figuresAt now (below + m)) mostSumBefore
+    below-small s = subst (λ (f : Figures). FiguresBelow f mostSumBefore) (sym below-is) s
 
     -- what the lead works out is the next of the element's figures
     step-is : leadStep c (c .«first_lead» + m) (figuresAt now (here + m)) old ≡ along (suc m)
@@ -112,9 +110,9 @@ module _ (c : ElementInput) (first : Figures) (here below : ℕ) (before : List 
         leadStepNumbers c (c .«first_lead» + m) (figuresAt now (here + m)) old ≡ leadPart c first (drainedAt before here) m
     numbers-are = rw (above-is, is)
 
-    module _ (r : FiguresAnswer) (next : List ℕ) (w : LeadWorked r c (leadAt c here below m) old now next) where
+    module _ (r : FiguresAnswer) (next : List ℕ) (w : LeadWorked (oldAndNewOutflow old) r c (leadAt c here below m) old now next) where
       -- it is refused, and with it the element
-      pub element-refused :
+      element-refused :
           {k : Refusal}
           → r ≡ Refused k
           → ElementWorked (of-verdict.Refused AboveCeiling) c first here below leads before next
@@ -126,42 +124,20 @@ module _ (c : ElementInput) (first : Figures) (here below : ℕ) (before : List 
             done = λ a. absurd (not-both (ap verdictAnswer a) refl);
           }
 
-      module _
-          (x : Figures) (e : r ≡ Accepted x) (hereRoom : 4 * (here + leads) ≤ length now) (belowRoom : 4 * (below + leads) ≤ length now) where
-        abbrev sum : Figures
-        sum = joinedInflow (figuresAt now (below + m)) x
-
+      module _ (x : Figures) (e : r ≡ Accepted x) where
         step-known : (x ≡ leadStep c (c .«first_lead» + m) (figuresAt now (here + m)) old) × Under (leadPart c first (drainedAt before here) m)
         step-known =
             let a = sym (ap figuresAnswer e) ∙ w .answer in
             (same-accepted _ first _ a .0, rw numbers-are at (known-under _ _ a))
 
-        pub x-is : x ≡ along (suc m)
+        x-is : x ≡ along (suc m)
         x-is = step-known .0 ∙ step-is
 
-        -- the space after this lead: its places, and all others
-        here-length : 4 * (here + m) + 3 < length now
-        here-length = omega (arith, hereRoom, less)
-
-        below-length : 4 * (below + m) + 3 < length (put now (here + m) x)
-        below-length = omega (arith, belowRoom, less, put-length now (here + m) x)
-
-        here-now : figuresAt next (here + m) ≡ x
-        here-now =
-            rw (w .kept x e .written)
-            (put-other (put now (here + m) x) (below + m) sum (here + m) (λ q. places-apart (sym q)) ∙ put-here now (here + m) x here-length)
-
-        below-now : figuresAt next (below + m) ≡ joinedInflow (figuresAt before (below + m)) x
-        below-now =
-            rw (w .kept x e .written)
-            (put-here (put now (here + m) x) (below + m) sum below-length ∙ ap (λ (f : Figures). joinedInflow f x) below-is)
+        below-now : figuresAt next (below + m) ≡ joinedInflow (figuresAt before (below + m)) (oldAndNewOutflow (along m) (along (suc m)))
+        below-now = w .kept x e .added ∙ rw (below-is, is, x-is)
 
         other-now : (p : ℕ) → p ≢ here + m → p ≢ below + m → figuresAt next p ≡ figuresAt now p
-        other-now p a b =
-            rw (w .kept x e .written) (put-other (put now (here + m) x) (below + m) sum p b ∙ put-other now (here + m) x p a)
-
-        pub next-length : length next ≡ length now
-        next-length = rw (w .kept x e .written) (put-length _ (below + m) sum ∙ put-length now (here + m) x)
+        other-now = w .kept x e .others
 
         under-more : Under (numbers (suc m))
         unfolding numbersAfter
@@ -169,21 +145,24 @@ module _ (c : ElementInput) (first : Figures) (here below : ℕ) (before : List 
 
         placed-more : (l : ℕ) → l < suc m → figuresAt next (here + l) ≡ along (suc l)
         placed-more l n =
-            ⊎-elim (λ q. rw q (here-now ∙ x-is))
+            ⊎-elim (λ q. rw q (w .kept x e .placed ∙ x-is))
             (λ k. other-now (here + l) (λ q. omega (arith, q, k)) (λ q. earlier l k q) ∙ h .placed l k) (eq-or-lt-of-le (omega arith))
           where
             earlier : (l : ℕ) → l < m → here + l ≢ below + m
             earlier l k q = ⊎-elim (λ a. omega arith) (λ b. omega arith) apart
 
-        added-more : (l : ℕ) → l < suc m → figuresAt next (below + l) ≡ joinedInflow (figuresAt before (below + l)) (along (suc l))
+        added-more :
+            (l : ℕ)
+            → l < suc m
+            → figuresAt next (below + l) ≡ joinedInflow (figuresAt before (below + l)) (oldAndNewOutflow (along l) (along (suc l)))
         added-more l n =
-            ⊎-elim (λ q. rw q (below-now ∙ ap (joinedInflow (figuresAt before (below + m))) x-is))
+            ⊎-elim (λ q. rw q below-now)
             (λ k. other-now (below + l) (λ q. earlier l k q) (λ q. omega (arith, q, k)) ∙ h .added l k) (eq-or-lt-of-le (omega arith))
           where
             earlier : (l : ℕ) → l < m → below + l ≢ here + m
             earlier l k q = ⊎-elim (λ a. omega arith) (λ b. omega arith) apart
 
-        pub done-again : LeadsDone c first here below (m + 1) before next
+        done-again : LeadsDone c first here below (m + 1) before next
         done-again =
             subst (λ (n : ℕ). LeadsDone c first here below n before next) (sym (add-one m))
             (record {
@@ -194,73 +173,88 @@ module _ (c : ElementInput) (first : Figures) (here below : ℕ) (before : List 
               others = λ p a b. other-now p (a m (omega arith)) (b m (omega arith)) ∙ h .others p (λ l k. a l (omega arith)) (λ l k. b l (omega arith));
             })
 
-        pub old-again : x ≡ along (m + 1)
+        old-again : x ≡ along (m + 1)
         old-again = x-is ∙ ap along (sym (add-one m))
 
--- all leads are done
-pub element-accepted :
-    (c : ElementInput) (first : Figures) (here below m leads : ℕ) (before after : List ℕ)
-    → m ≡ leads
-    → LeadsDone c first here below m before after
-    → ElementWorked of-verdict.Accepted c first here below leads before after
-element-accepted c first here below m leads before after e h =
-    let g = subst (λ (n : ℕ). LeadsDone c first here below n before after) e h in
-    record { verdict = under-accepted tt _ (g .under); done = λ a. g }
+-- what the loop over an element's leads holds after k of them: the figures at the last of these, and the space
+pub record LeadsSoFar
+    (c : ElementInput) (first : Figures) (here below leads : ℕ) (before : List ℕ) (k : ℕ) (now : List ℕ) (old : Figures)
+    : Type 0 where
+  pub few : k ≤ leads
+  pub size : length now ≡ length before
+  pub is : old ≡ figuresAfter c first (drainedAt before here) k
+  pub done : LeadsDone c first here below k before now
 
--- the leads of a dam
+pub leads-begin :
+    (c : ElementInput) (first : Figures) (here below leads : ℕ) (before : List ℕ)
+    → FiguresFit first
+    → LeadsSoFar c first here below leads before 0 before first
+leads-begin c first here below leads before fits =
+    record {
+      few = omega arith;
+      size = refl;
+      is = first-is c first here below before;
+      done = done-begin c first here below before fits;
+    }
+
 module _
-    (c : ElementInput) (here below leads : ℕ) (before : List ℕ) (k : c .element .kind ≡ dam) (inRange : InputInRange c)
-    (apart : Apart here below leads) where
-  abbrev held : Figures
-  held = released (c .element) (c .own)
+    (c : ElementInput) (first : Figures) (here below leads : ℕ) (before : List ℕ) (places : LeadPlaces here below leads before) (k : ℕ)
+    (now : List ℕ) (old : Figures) (h : LeadsSoFar c first here below leads before k now old) (less : k < leads) where
+  -- the next lead is ready to be worked out
+  pub lead-ready :
+      InputInRange c
+      → (number : ℕ)
+      → number ≤ mostLeads
+      → LeadReady mostSumBefore c (record { number = number; here = here + k; below = below + k }) old now
+  lead-ready inRange number few =
+      record {
+        inRange = inRange;
+        number = few;
+        here = omega (arith, less, places .hereRoom, h .size);
+        below = omega (arith, less, places .belowRoom, h .size);
+        apart = places-apart c first here below before k leads now old (h .done) (h .is) less (places .apart);
+        old = subst FiguresFit (sym (h .is)) (h .done .fits k (omega arith));
+        small = below-small c first here below before k leads now old (h .done) (h .is) less (places .apart) (places .small k less);
+      }
 
-  pub held-fits : FiguresFit held
-  held-fits = released-fits c (leadAt c here below 0) held before k inRange
+  pub number-few : InputInRange c → c .«first_lead» + k ≤ mostLeads
+  number-few inRange = omega (arith, less, places .short, inRange .firstLead)
 
-  -- no lead yet
-  pub dam-begin : DamHeld c here below 0 before before
-  dam-begin = record { from = λ first fits. done-begin c first here below before fits }
+  module _ (r : FiguresAnswer) (next : List ℕ) (w : LeadWorked (oldAndNewOutflow old) r c (leadAt c here below k) old now next) where
+    -- it is refused, and with it the element
+    pub leads-refused : {n : Refusal} → r ≡ Refused n → ElementWorked (of-verdict.Refused AboveCeiling) c first here below leads before next
+    leads-refused e = element-refused c first here below before k leads now old (h .done) (h .is) less (places .apart) r next w e
 
-  -- one lead more
-  module _ (m : ℕ) (now : List ℕ) (h : DamHeld c here below m before now) (less : m < leads) where
-    -- its places
-    pub dam-places : 4 * (here + leads) ≤ length now → 4 * (below + leads) ≤ length now → FiguresBelow (figuresAt before (below + m)) mostSum → PlacesReady now (here + m) (below + m) held
-    dam-places hereRoom belowRoom small =
-        let d = h .from held held-fits in
+    -- one lead more
+    pub leads-again : {x : Figures} → r ≡ Accepted x → LeadsSoFar c first here below leads before (k + 1) next x
+    leads-again {x} e =
         record {
-          hereRoom = omega (arith, hereRoom, less);
-          belowRoom = omega (arith, belowRoom, less);
-          apart = places-apart c held here below before m leads now _ d refl less apart;
-          small = below-small c held here below before m leads now _ d refl less apart small;
-          fits = held-fits;
+          few = omega (arith, less);
+          size = w .kept x e .size ∙ h .size;
+          is = old-again c first here below before k leads now old (h .done) (h .is) less (places .apart) r next w x e;
+          done = done-again c first here below before k leads now old (h .done) (h .is) less (places .apart) r next w x e;
         }
 
-    module _ (next : List ℕ) (w : DamWorked c (here + m) (below + m) now next) where
-      pub dam-again : 4 * (here + leads) ≤ length now → 4 * (below + leads) ≤ length now → DamHeld c here below (m + 1) before next
-      dam-again hereRoom belowRoom =
-          record {
-            from = λ first fits.
-                done-again c first here below before m leads now _ (h .from first fits) refl less apart _ next
-                (w .at _ _) _ refl hereRoom belowRoom;
-          }
+-- all leads are done
+pub leads-done :
+    {c : ElementInput} {first : Figures} {here below leads : ℕ} {before : List ℕ} {k : ℕ} {now : List ℕ} {old : Figures}
+    → k ≡ leads
+    → LeadsSoFar c first here below leads before k now old
+    → LeadsDone c first here below leads before now
+leads-done {c} {first} {here} {below} {leads} {before} {k} {now} e h =
+    subst (λ (n : ℕ). LeadsDone c first here below n before now) e (h .done)
 
-      pub dam-length : 4 * (here + leads) ≤ length now → 4 * (below + leads) ≤ length now → length next ≡ length now
-      dam-length hereRoom belowRoom =
-          next-length c held here below before m leads now _ (h .from held held-fits) refl less apart _ next
-          (w .at _ _) _ refl hereRoom belowRoom
+pub element-accepted :
+    {c : ElementInput} {first : Figures} {here below leads : ℕ} {before after : List ℕ}
+    → LeadsDone c first here below leads before after
+    → ElementWorked of-verdict.Accepted c first here below leads before after
+element-accepted g = record { verdict = under-accepted tt _ (g .under); done = λ a. g }
 
-pub dam-done :
-    {c : ElementInput} {here below m leads : ℕ} {before after : List ℕ}
-    → m ≡ leads
-    → DamHeld c here below m before after
-    → DamHeld c here below leads before after
-dam-done {c} {here} {below} {m} {leads} {before} {after} e h = subst (λ (n : ℕ). DamHeld c here below n before after) e h
-
--- a step is one lead, of number 0: what its code has worked out
+-- a step is one lead, of number 0, whose old figures are added first: what its code has worked out
 module _
-    (c : ElementInput) (first : Figures) (here below : ℕ) (before after : List ℕ) (number : c .«first_lead» ≡ 0)
-    (ready : LeadReady c (stepLead here below) first before) (r : FiguresAnswer)
-    (w : LeadWorked r c (stepLead here below) first before after) where
+    (c : ElementInput) (first : Figures) (here below : ℕ) (before space after : List ℕ) (number : c .«first_lead» ≡ 0)
+    (ready : LeadReady mostSumBefore c (stepLead here below) first before) (is : space ≡ added before below (oldOutflow first))
+    (r : FiguresAnswer) (w : LeadWorked (λ x. x) r c (stepLead here below) first space after) where
   begun : LeadsDone c first here below 0 before before
   begun = done-begin c first here below before (ready .old)
 
@@ -272,8 +266,10 @@ module _
       go (no h) (yes k) = inr k
       go (no h) (no k) = absurd (ready .apart (omega arith))
 
-  worked : LeadWorked r c (leadAt c here below 0) first before after
-  worked = subst (λ (lead : Lead). LeadWorked r c lead first before after) same w
+  worked : LeadWorked (oldAndNewOutflow first) r c (leadAt c here below 0) first before after
+  worked =
+      subst (λ (lead : Lead). LeadWorked (oldAndNewOutflow first) r c lead first before after) same
+      (step-worked c (stepLead here below) first before ready (oldOutflow first) refl space is w)
     where
       same : stepLead here below ≡ leadAt c here below 0
       same = rw (number, add-zero here, add-zero below)
@@ -288,4 +284,3 @@ module _
   pub work-step-done : {x : Figures} → r ≡ Accepted x → LeadsDone c first here below 1 before after
   work-step-done e =
       done-again _ _ _ _ _ _ 1 _ _ begun (first-is c first here below before) (omega arith) apart _ _ worked _ e
-      (omega (arith, ready .here)) (omega (arith, ready .below))

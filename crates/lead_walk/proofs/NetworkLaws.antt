@@ -6,11 +6,11 @@ use mathlib.Core.Path.{_≡_, refl, sym, ap, subst, _∙_}
 use native.Mathlib.Nat.{eq-or-lt-of-le}
 use native.Mathlib.Omega.{arith}
 use Rattle.sizes.specs.Sizes.{mostElements}
-use Rattle.units.specs.Units.{C}
 use Rattle.units.proofs.UnderLaws.{Under}
 use Rattle.method.specs.declared.Figures.{Figures}
 use Rattle.method.specs.Figures.{FiguresFit}
-use Rattle.method.specs.Inflow.{noInflow, joinedInflow}
+use Rattle.method.specs.Inflow.{noInflow, joinedInflow, oldAndNewOutflow}
+use Rattle.method.proofs.InflowLaws.{old-outflow-fits}
 use Rattle.table.specs.Tables.{TableValues}
 use Rattle.record.specs.declared.Observation.{Observation}
 use Rattle.element_step.specs.ElementStep.{elementNumbers}
@@ -19,8 +19,8 @@ use Rattle.walk.specs.Space.{Later, Turned, Held}
 use Rattle.walk.proofs.SpaceLaws.{held-begin, found, held-again, sum-small}
 use Rattle.network.specs.Step.{weightOf, networkDown, networkCell, networkOutflow, aboveOf, newFigures, networkNumbers}
 use Rattle.network.proofs.NumbersLaws.{cellNumbers, element-part, numbers-none, numbers-more}
-use Rattle.answer_space.specs.Places.{figuresAt, mostSum, FiguresBelow}
-use Rattle.answer_space.proofs.PlacesLaws.{same-element}
+use Rattle.answer_space.specs.Places.{figuresAt, mostOutflow, mostSumBefore, FiguresBelow}
+use Rattle.answer_space.proofs.PlacesLaws.{fits-below, below-most, joined-below, same-element}
 use Rattle.one_lead.specs.declared.ElementInput.{ElementInput}
 use Rattle.one_lead.specs.Leads.{ownAtLead, leadStep, leadStepNumbers}
 use Rattle.lead_walk.specs.Leads.{figuresAfter, numbersAfter}
@@ -29,28 +29,13 @@ use Rattle.lead_walk.proofs.LeadsLaws.{part-of, all-parts}
 
 -- ---- how large a sum is
 
-none-below : FiguresBelow noInflow (0 * C)
+none-below : FiguresBelow noInflow (0 * mostOutflow)
 unfolding noInflow
 none-below = record { discharge = omega arith; dischargeMargin = omega arith; variance = omega arith; varianceMargin = omega arith }
 
-joined-below : (m : ℕ) (f x : Figures) → FiguresBelow f (m * C) → FiguresFit x → FiguresBelow (joinedInflow f x) (suc m * C)
-unfolding joinedInflow
-joined-below m f x h g =
-    record {
-      discharge = omega (arith, h .discharge, g .discharge);
-      dischargeMargin = omega (arith, h .dischargeMargin, g .dischargeMargin);
-      variance = omega (arith, h .variance, g .variance);
-      varianceMargin = omega (arith, h .varianceMargin, g .varianceMargin);
-    }
-
-below-most : (f : Figures) (b m : ℕ) → FiguresBelow f b → b ≤ m → FiguresBelow f m
-below-most f b m h l =
-    record {
-      discharge = omega (arith, h .discharge);
-      dischargeMargin = omega (arith, h .dischargeMargin);
-      variance = omega (arith, h .variance);
-      varianceMargin = omega (arith, h .varianceMargin);
-    }
+outflow-below : {old new : Figures} → FiguresFit old → FiguresFit new → FiguresBelow (oldAndNewOutflow old new) mostOutflow
+unfolding oldAndNewOutflow
+outflow-below f g = joined-below (fits-below (old-outflow-fits f)) (fits-below g) (omega arith)
 
 -- ---- the walk
 
@@ -72,6 +57,7 @@ module _ (t : TableValues) (own : ℕ → ℕ → Figures) (o : ℕ → Observat
   -- the first i elements are worked out at all leads
   pub record Walked (leads i : ℕ) (space : List ℕ) : Type 0 where
     pub held : (l : ℕ) → l < leads → HeldAt l space i
+    pub oldFits : (l j : ℕ) → l < leads → j < i → FiguresFit (old l j)
     pub fits : (l j : ℕ) → l < leads → j < i → FiguresFit (newAt l j)
     pub under : (l : ℕ) → l < leads → Under (numbersAt l i)
 
@@ -79,6 +65,7 @@ module _ (t : TableValues) (own : ℕ → ℕ → Figures) (o : ℕ → Observat
   walked-begin leads space none =
       record {
         held = λ l m. held-begin (placeAt l) (placeAt l) noInflow joinedInflow (networkDown t) (networkCell t (own l) o) networkOutflow (old l) space (λ k. none (k * w + from + l));
+        oldFits = λ l j m n. absurd (omega arith);
         fits = λ l j m n. absurd (omega arith);
         under = λ l m. numbers-none t (own l) o (old l);
       }
@@ -95,7 +82,10 @@ module _ (t : TableValues) (own : ℕ → ℕ → Figures) (o : ℕ → Observat
   walked-at leads i space h l k m n = h .held l m .done k n
 
   -- what drains into an element's place is small
-  out-is : (l j : ℕ) → outflow noInflow joinedInflow (networkDown t) (networkCell t (own l) o) networkOutflow (old l) j ≡ newAt l j
+  out-is :
+      (l j : ℕ)
+      → outflow noInflow joinedInflow (networkDown t) (networkCell t (own l) o) networkOutflow (old l) j
+      ≡ oldAndNewOutflow (old l j) (newAt l j)
   unfolding outflow networkOutflow newFigures
   out-is l j = refl
 
@@ -107,13 +97,14 @@ module _ (t : TableValues) (own : ℕ → ℕ → Figures) (o : ℕ → Observat
       → Later i d
       → (l : ℕ)
       → l < leads
-      → FiguresBelow (figuresAt space (d * w + from + l)) mostSum
+      → FiguresBelow (figuresAt space (d * w + from + l)) mostSumBefore
   walked-small leads i space h few d to l m =
-      below-most _ (i * C) mostSum
-      (subst (λ (f : Figures). FiguresBelow f (i * C)) (sym sum-is)
-      (sum-small (λ (k : ℕ) (f : Figures). FiguresBelow f (k * C)) FiguresFit noInflow joinedInflow none-below joined-below
-      (λ k f b. below-most f (k * C) (suc k * C) b (omega arith)) (networkDown t) (networkCell t (own l) o) networkOutflow (old l) d i
-      (λ j n. subst FiguresFit (sym (out-is l j)) (h .fits l j m n))))
+      below-most
+      (subst (λ (f : Figures). FiguresBelow f (i * mostOutflow)) (sym sum-is)
+      (sum-small (λ (k : ℕ) (f : Figures). FiguresBelow f (k * mostOutflow)) (λ (f : Figures). FiguresBelow f mostOutflow) noInflow
+      joinedInflow none-below (λ k f x h g. joined-below h g (omega arith)) (λ k f h. below-most h (omega arith)) (networkDown t)
+      (networkCell t (own l) o) networkOutflow (old l) d i
+      (λ j n. rw (out-is l j) (outflow-below (h .oldFits l j m n) (h .fits l j m n)))))
       (omega (arith, few))
     where
       sum-is :
@@ -203,7 +194,7 @@ module _ (t : TableValues) (own : ℕ → ℕ → Figures) (o : ℕ → Observat
         turned l m =
             record {
               here = g .placed l m ∙ new-is l m;
-              added = g .added l m ∙ ap (joinedInflow (placeAt l before d)) (new-is l m ∙ sym (out-is l i));
+              added = g .added l m ∙ ap (joinedInflow (placeAt l before d)) (rw (after-same l (omega arith), new-is l m) (sym (out-is l i)));
               cells = λ k a b. stays l k m a b;
               sums = λ k a b. stays l k m a b;
             }
@@ -219,6 +210,10 @@ module _ (t : TableValues) (own : ℕ → ℕ → Figures) (o : ℕ → Observat
         walked-again =
             record {
               held = held-more;
+              oldFits =
+                  λ l j m n.
+                  ⊎-elim (λ e. rw e (subst FiguresFit (after-same l (omega arith)) (g .fits l (omega arith)))) (λ k. h .oldFits l j m k)
+                  (eq-or-lt-of-le (omega arith));
               fits =
                   λ l j m n.
                   ⊎-elim (λ e. rw e (subst FiguresFit (new-is l m) (g .fits (suc l) m))) (λ k. h .fits l j m k) (eq-or-lt-of-le (omega arith));

@@ -12,9 +12,9 @@ use Rattle.refusal.specs.Verdicts.{verdictAnswer}
 use Rattle.units.specs.Ceiling.{somePasses, underCeiling}
 use Rattle.method.specs.declared.Figures.{Figures}
 use Rattle.method.specs.Figures.{FiguresFit}
-use Rattle.method.specs.Inflow.{joinedInflow}
+use Rattle.method.specs.Inflow.{joinedInflow, oldAndNewOutflow}
 use Rattle.record.specs.declared.Observation.the-variants.{Nothing}
-use Rattle.answer_space.specs.Places.{figuresAt, mostSum, FiguresBelow}
+use Rattle.answer_space.specs.Places.{figuresAt, mostSumBefore, FiguresBelow}
 use Rattle.one_lead.specs.declared.ElementInput.{ElementInput}
 use Rattle.one_lead.specs.Worked.{InputInRange}
 use Rattle.lead_walk.specs.Leads.{figuresAfter, numbersAfter}
@@ -29,7 +29,7 @@ pub record LeadPlaces (here below leads : ℕ) (space : List ℕ) : Type 0 where
   pub hereRoom : 4 * (here + leads) ≤ length space
   pub belowRoom : 4 * (below + leads) ≤ length space
   pub apart : Apart here below leads
-  pub small : (l : ℕ) → l < leads → FiguresBelow (figuresAt space (below + l)) mostSum
+  pub small : (l : ℕ) → l < leads → FiguresBelow (figuresAt space (below + l)) mostSumBefore
 
 pub record LeadsReady (c : ElementInput) (first : Figures) (here below leads : ℕ) (space : List ℕ) : Type 0 where
   pub inRange : InputInRange c
@@ -50,16 +50,13 @@ pub record LeadsDone (c : ElementInput) (first : Figures) (here below m : ℕ) (
       (l : ℕ)
       → l < m
       → figuresAt after (below + l)
-      ≡ joinedInflow (figuresAt before (below + l)) (figuresAfter c first (drainedAt before here) (suc l))
+      ≡ joinedInflow (figuresAt before (below + l))
+      (oldAndNewOutflow (figuresAfter c first (drainedAt before here) l) (figuresAfter c first (drainedAt before here) (suc l)))
   pub others :
       (p : ℕ)
       → ((l : ℕ) → l < m → p ≢ here + l)
       → ((l : ℕ) → l < m → p ≢ below + l)
       → figuresAt after p ≡ figuresAt before p
-
--- so with the leads of a dam, whatever it had before them
-pub record DamHeld (c : ElementInput) (here below m : ℕ) (before after : List ℕ) : Type 0 where
-  pub from : (first : Figures) → FiguresFit first → LeadsDone c first here below m before after
 
 -- all leads of the element, or 16
 pub record ElementWorked (r : Verdict) (c : ElementInput) (first : Figures) (here below leads : ℕ) (before after : List ℕ) : Type 0 where

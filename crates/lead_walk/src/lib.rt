@@ -2,8 +2,7 @@
 ghost use mathlib.Core.Logic.{_≢_};
 ghost use mathlib.Core.Path.{_≡_};
 ghost use Rattle.elements.specs.Kinds.{dam};
-ghost use Rattle.one_lead.specs.Worked.{InputInRange};
-ghost use Rattle.lead_walk.specs.Worked.{LeadPlaces, LeadsReady, DamHeld, ElementWorked};
+ghost use Rattle.lead_walk.specs.Worked.{LeadsReady, LeadsDone, ElementWorked};
 use method::Figures;
 use method::FiguresAnswer;
 use one_lead::ElementInput;
@@ -43,12 +42,20 @@ fn store_element(
 }
 
 // All leads of a dam: it lets out the same at each.
-fn hold_dam(input: ElementInput, here: usize, below: usize, leads: usize, space: &mut [u64])
-    requires { ⌜ InputInRange input × (LeadPlaces here below leads (now space) × (input .element .kind ≡ dam)) ⌝ }
-    ensures { λ _. ⌜ DamHeld input here below leads (now (space .entry)) (now (space .exit)) ⌝ }
+fn hold_dam(
+    input: ElementInput,
+    first: Figures,
+    here: usize,
+    below: usize,
+    leads: usize,
+    space: &mut [u64],
+)
+    requires { ⌜ LeadsReady input first here below leads (now space) × (input .element .kind ≡ dam) ⌝ }
+    ensures { λ _. ⌜ LeadsDone input first here below leads (now (space .entry)) (now (space .exit)) ⌝ }
 {
+    let mut old = first;
     for k in 0..leads {
-        hold_lead(input, here + k, below + k, &mut *space);
+        old = hold_lead(input, here + k, below + k, old, &mut *space);
     }
 }
 
@@ -66,7 +73,7 @@ pub fn work_element(
 {
     let element = input.element;
     if element.kind == elements::DAM {
-        hold_dam(input, here, below, leads, space);
+        hold_dam(input, first, here, below, leads, space);
         return Verdict::Accepted;
     }
     store_element(input, first, here, below, leads, space)

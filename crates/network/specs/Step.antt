@@ -1,9 +1,9 @@
--- Document 01, One step, element 1 to N, and document 02, M-100.
+-- Document 01, One step, element 1 to N, and document 02, M-100 and M-103.
 use Prim.Native.Nat.{ℕ, zero, suc, _+_}
 use mathlib.Core.List.{List, [], _++_}
 use Rattle.weighting.specs.Weight.{weight}
 use Rattle.method.specs.declared.Figures.{Figures}
-use Rattle.method.specs.Inflow.{stepInflow, noInflow, joinedInflow}
+use Rattle.method.specs.Inflow.{stepInflow, noInflow, joinedInflow, oldAndNewOutflow}
 use Rattle.elements.specs.Kinds.{byKind}
 use Rattle.table.specs.Tables.{TableValues}
 use Rattle.record.specs.declared.Observation.{Observation}
@@ -25,12 +25,12 @@ networkDown t i = t .element i .down
 unfoldable pub networkCell : TableValues → (ℕ → Figures) → (ℕ → Observation) → ℕ → Figures → Figures → Figures
 networkCell t own o i above old = elementStep (weightOf t i) (t .element i) (own i) (o i) above old
 
--- "the sums of the new ones of all elements draining into it": an element lets out its new figures
+-- M-103: "the sum of old and new outflows above"
 unfoldable pub networkOutflow : ℕ → Figures → Figures → Figures
-networkOutflow i old new = new
+networkOutflow i old new = oldAndNewOutflow old new
 
 module _ (t : TableValues) (own : ℕ → Figures) (o : ℕ → Observation) (old : ℕ → Figures) where
-  -- what drains into element i, and its new figures
+  -- the sums of what drains into element i, and its new figures
   unfoldable pub aboveOf : ℕ → Figures
   aboveOf i = gathered noInflow joinedInflow (networkDown t) (networkCell t own o) networkOutflow old i
 

@@ -24,7 +24,7 @@ use Rattle.walk.specs.Space.{Later}
 use Rattle.network.specs.Step.{networkDown, noObservation}
 use Rattle.network.specs.Forecast.{leadFigures, leadNumbers}
 use Rattle.network.proofs.NumbersLaws.{leadOwn, numbersAt, figures-again, lead-part, lead-whole}
-use Rattle.answer_space.specs.Places.{figuresAt, put, mostSum, FiguresBelow}
+use Rattle.answer_space.specs.Places.{figuresAt, put, mostSumBefore, FiguresBelow}
 use Rattle.answer_space.proofs.PlacesLaws.{put-here, put-other, same-lead}
 use Rattle.one_lead.specs.declared.ElementInput.{ElementInput}
 use Rattle.lead_walk.specs.Leads.{numbersAfter}
@@ -98,6 +98,7 @@ module _ (t : TableValues) (s : State) (leads : ℕ) where
                   waiting = λ k n. stays l k m ∙ g .waiting k n;
                   done = λ k n. stays l (k + 1) m ∙ g .done k n;
                 };
+            oldFits = h .walked .oldFits;
             fits = h .walked .fits;
             under = h .walked .under;
           };
@@ -123,7 +124,7 @@ module _ (t : TableValues) (s : State) (leads : ℕ) where
         → Later i d
         → (l : ℕ)
         → l < leads
-        → FiguresBelow (figuresAt space (d * w + 1 + l)) mostSum
+        → FiguresBelow (figuresAt space (d * w + 1 + l)) mostSumBefore
     worked-small few d to l m = walked-small t _ _ _ w 1 leads i space (h .walked) few d to l m
 
     -- where no number of the forecast passes, none of this element does

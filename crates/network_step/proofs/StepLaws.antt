@@ -15,7 +15,8 @@ use Rattle.refusal.specs.declared.Verdict.the-variants.{Refused}
 use Rattle.units.specs.Units.{C, S}
 use Rattle.units.proofs.UnderLaws.{Under, under-accepted, refused-whole}
 use Rattle.method.specs.declared.Figures.{Figures}
-use Rattle.method.specs.Inflow.{noInflow, stepInflow, meanRainInflow}
+use Rattle.method.specs.Inflow.{noInflow, oldOutflow, stepInflow, meanRainInflow}
+use Rattle.method.proofs.InflowLaws.{old-outflow-fits}
 use Rattle.inflow.specs.Basin.{basinInflow}
 use Rattle.elements.specs.declared.Element.{Element}
 use Rattle.elements.specs.Elements.{elementAt}
@@ -25,7 +26,7 @@ use Rattle.table.specs.Tables.{TableValues}
 use Rattle.table.specs.Bounds.{AcceptedTable}
 use Rattle.table.specs.InUse.{tableIn}
 use Rattle.table.proofs.InUseLaws.{element-read}
-use Rattle.table.proofs.HeldLaws.{element-bounds}
+use Rattle.table.proofs.HeldLaws.{element-there, element-bounds}
 use Rattle.record.specs.declared.Observation.{Observation}
 use Rattle.record.specs.Records.{rainAt, releaseAt, rainOf, releaseOf, inputRain, inputRelease, inputObservation, inputAt}
 use Rattle.table.specs.KindCounts.{basinsBefore, damsBefore, basinCount}
@@ -40,7 +41,8 @@ use Rattle.element_step.specs.Answers.{ownAt}
 use Rattle.element_step.specs.Bounds.{ElementInRange}
 use Rattle.walk.specs.Space.{Later}
 use Rattle.network.specs.Step.{weightOf, networkDown, newFigures, networkNumbers, stepOwn, observedIn, stepFigures, stepNumbers}
-use Rattle.answer_space.specs.Places.{figuresAt, mostSum, FiguresBelow}
+use Rattle.answer_space.specs.Places.{figuresAt, added, mostSumBefore, FiguresBelow}
+use Rattle.answer_space.proofs.PlacesLaws.{below-most}
 use Rattle.one_lead.specs.declared.ElementInput.{ElementInput}
 use Rattle.one_lead.specs.Leads.{ownAtLead}
 use Rattle.one_lead.specs.Worked.{stepLead, LeadReady}
@@ -50,7 +52,7 @@ use Rattle.lead_walk.proofs.NetworkLaws.{Walked, walked-begin, walked-at, walke
 use Rattle.network_step.specs.declared.Passed.{Passed}
 use Rattle.network_step.specs.declared.StepInput.{StepInput}
 use Rattle.network_step.specs.Inputs.{inputOf, ownNumber, passedBy, stepInput}
-use Rattle.network_step.specs.Held.{Cleared, StepWorked, underVerdict}
+use Rattle.network_step.specs.Held.{Cleared, OldReady, StepWorked, underVerdict}
 
 -- the inflow of a step is that of one rain at lead 0
 inflow-same :
@@ -119,6 +121,15 @@ zero-at (suc n) (suc k) = zero-at n k
 pub cleared : (n room : ℕ) → 4 * (n + 1) ≤ room → Cleared n (replicate room 0)
 unfolding figuresAt noInflow
 cleared n room l = record { room = rw length-replicate l; none = λ p. simp zero-at }
+
+-- the old outflow of element i is added
+pub old-added :
+    (table : List ℕ) (s : State) (i : ℕ) (before : List ℕ) {e : Element} {first : Figures} {after : List ℕ}
+    → e ≡ elementAt table i
+    → first ≡ figuresOf s i
+    → after ≡ added before (elementAt table i .down) (oldOutflow (figuresOf s i))
+    → after ≡ added before (e .down) (oldOutflow first)
+old-added table s i before same is put = rw (same, is) put
 
 module _ (table bytes : List ℕ) (s : State) where
   abbrev t : TableValues
@@ -219,12 +230,32 @@ module _ (table bytes : List ℕ) (s : State) where
       → i < mostElements
       → (d : ℕ)
       → Later i d
-      → FiguresBelow (figuresAt space d) mostSum
+      → FiguresBelow (figuresAt space d) mostSumBefore
   stepping-small i space h few d to =
-      subst (λ (p : ℕ). FiguresBelow (figuresAt space p) mostSum) (place-is d) (walked-small t own o figuresBy 1 0 1 i space h few d to 0 (omega arith))
+      subst (λ (p : ℕ). FiguresBelow (figuresAt space p) mostSumBefore) (place-is d) (walked-small t own o figuresBy 1 0 1 i space h few d to 0 (omega arith))
     where
       place-is : (d : ℕ) → d * 1 + 0 + 0 ≡ d
       place-is d = omega arith
+
+  -- the old outflow of element i is ready to be added there
+  pub old-outflow-ready :
+      (i : ℕ) (space : List ℕ)
+      → AcceptedTable table
+      → StateBounds t s
+      → i < t .elements
+      → Stepping i space
+      → 4 * (t .elements + 1) ≤ length space
+      → OldReady table i s space
+  old-outflow-ready i space accepts state l h room =
+      let e = element-bounds table accepts l in
+      let few : i < mostElements = omega (arith, accepts .bounds .elementsMost) in
+      record {
+        there = element-there table accepts l;
+        place = few;
+        room = omega (arith, e .down, room);
+        small = below-most (stepping-small i space h few (elementAt table i .down) (e .later)) (omega arith);
+        fits = old-outflow-fits (state .figures i l);
+      }
 
   -- element i, as the code takes it
   module _
@@ -259,7 +290,7 @@ module _ (table bytes : List ℕ) (s : State) where
         → first ≡ figuresOf s i
         → Stepping i space
         → 4 * (t .elements + 1) ≤ length space
-        → LeadReady c (stepLead (i + 1) (c .element .down)) first space
+        → LeadReady mostSumBefore c (stepLead (i + 1) (c .element .down)) first space
     unfolding stepInput inputOf
     step-ready space accepts kept state few same is h room =
         let e = element-bounds table accepts l in

@@ -1,13 +1,20 @@
 // A step of the whole network: all elements in one working space.
 ghost use mathlib.Core.Path.{_≡_};
+ghost use Rattle.method.specs.Inflow.{oldOutflow};
+ghost use Rattle.elements.specs.Elements.{elementAt};
 ghost use Rattle.table.specs.InUse.{tableIn};
+ghost use Rattle.state.specs.States.{figuresOf};
+ghost use Rattle.answer_space.specs.Places.{added};
 ghost use Rattle.network_step.specs.Inputs.{inputOf, stepInput, StepInputReady};
-ghost use Rattle.network_step.specs.Held.{StepReady, Cleared, StepWorked};
+ghost use Rattle.network_step.specs.Held.{StepReady, Cleared, OldReady, StepWorked};
+use answer_space::add_figures;
 use element_weights::weight_of;
 use elements::Element;
+use elements::down_at;
 use elements::element_at;
 use elements::kind_at;
 use inflow::mean_rain_inflow;
+use inflow::old_outflow;
 use method::FiguresAnswer;
 use one_lead::ElementInput;
 use readings::gauge_here;
@@ -93,8 +100,18 @@ fn step_input(
     }
 }
 
+// What element i, counted from 0, has let out before the step, added to the sums of the element below it.
+fn add_old_outflow(table: &[u8], i: usize, state: &[u64; STATE_NUMBERS], space: &mut [u64])
+    requires { ⌜ OldReady (now table) i (now state) (now space) ⌝ }
+    ensures { λ _. ⌜ now (space .exit) ≡ added (now (space .entry)) (elementAt (now (table .entry)) i .down) (oldOutflow (figuresOf (now (state .entry)) i)) ⌝ }
+{
+    let old = figures_of(state, i);
+    add_figures(space, down_at(table, i), old_outflow(old));
+}
+
 // All elements, one after the other, each as one lead, of number 0: whether no number passes the ceiling; then their new figures stand in
-// the working space. (The table's counts are read where they stand: a struct is handed over through memory.)
+// the working space. (The table's counts are read where they stand: a struct is handed over through memory. An element's old figures are added
+// before it is worked out, and read again then: kept until its new figures are there, they would take more instructions.)
 pub fn work_step(
     table: &[u8],
     basins: usize,
@@ -115,6 +132,7 @@ pub fn work_step(
         let here = gauge_here(table, n, counts.gauges, g, i);
         let observation = observation_here(observed, here, g);
         let weight = weight_of(table, counts.step, weights, i);
+        add_old_outflow(table, i, state, &mut *space);
         let taken = step_input(table, i, weight, bytes, basins, passed, observation);
         let input = taken.input;
         let element = input.element;

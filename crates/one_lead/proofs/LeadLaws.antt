@@ -1,7 +1,10 @@
--- What the code of one lead, or of a step, answers.
-use Prim.Native.Nat.{ℕ}
+-- What the code of one lead, or of a step, answers and leaves.
+use Prim.Native.Nat.{ℕ, _+_, _*_, _<_}
 use mathlib.Core.List.{List}
+use mathlib.Core.Logic.{_≢_}
 use mathlib.Core.Path.{_≡_, refl, sym, ap, subst, _∙_}
+use native.Mathlib.Omega.{arith}
+use lib.ListN.{length}
 use Rattle.refusal.specs.declared.Refusal.{Refusal}
 use Rattle.refusal.specs.declared.Refusal.the-variants.{AboveCeiling}
 use Rattle.refusal.specs.Answers.{accepted}
@@ -12,16 +15,132 @@ use Rattle.method.specs.declared.Figures.{Figures}
 use Rattle.method.specs.declared.FiguresAnswer.{FiguresAnswer}
 use Rattle.method.specs.declared.FiguresAnswer.the-variants.{Accepted, Refused}
 use Rattle.method.specs.Figures.{figuresAnswer, FiguresFit, AnsweredFiguresFit}
-use Rattle.method.proofs.FiguresLaws.{accepted-fits}
+use Rattle.method.specs.Inflow.{joinedInflow, oldOutflow, oldAndNewOutflow}
+use Rattle.method.proofs.InflowLaws.{old-then-new, new-then-old, old-outflow-fits}
 use Rattle.elements.specs.Kinds.{dam}
 use Rattle.element_step.specs.ElementStep.{released}
 use Rattle.element_step.specs.Answers.{elementAnswer}
 use Rattle.element_step.proofs.StepLaws.{dam-answered}
-use Rattle.answer_space.specs.Places.{figuresAt, putAndAdded, PlacesReady}
+use Rattle.answer_space.specs.Places.{figuresAt, put, added, putAndAdded, mostSum, mostSumBefore, FiguresBelow, PlacesReady}
+use Rattle.answer_space.proofs.PlacesLaws.{put-length, put-here, put-other, fits-below, below-most, joined-below}
 use Rattle.one_lead.specs.declared.ElementInput.{ElementInput}
 use Rattle.one_lead.specs.declared.Lead.{Lead}
 use Rattle.one_lead.specs.Leads.{leadStep, leadStepNumbers}
-use Rattle.one_lead.specs.Worked.{InputInRange, LeadReady, LeadKept, LeadWorked, DamWorked}
+use Rattle.one_lead.specs.Worked.{stepLead, InputInRange, LeadReady, LeadKept, LeadWorked, DamWorked}
+
+-- ---- what is left in the space
+
+-- the old figures added at the place below
+module _
+    (c : ElementInput) (lead : Lead) (old : Figures) (before : List ℕ) (ready : LeadReady mostSumBefore c lead old before) (out : Figures)
+    (brought : out ≡ oldOutflow old) where
+  out-fits : FiguresFit out
+  out-fits = rw brought (old-outflow-fits (ready .old))
+
+  pub old-ready : (4 * lead .below + 3 < length before) × (FiguresBelow (figuresAt before (lead .below)) mostSum × FiguresFit out)
+  old-ready = (ready .below, (below-most (ready .small) (omega arith), out-fits))
+
+  module _ (space : List ℕ) (is : space ≡ added before (lead .below) out) where
+    old-sum : figuresAt space (lead .below) ≡ joinedInflow (figuresAt before (lead .below)) out
+    old-sum = rw is (put-here before (lead .below) _ (ready .below))
+
+    old-others : (p : ℕ) → p ≢ lead .below → figuresAt space p ≡ figuresAt before p
+    old-others p n = rw is (put-other before (lead .below) _ p n)
+
+    old-size : length space ≡ length before
+    old-size = rw is (put-length before (lead .below) _)
+
+    -- it is ready for the new ones
+    pub new-ready : LeadReady mostSum c lead old space
+    new-ready =
+        record {
+          inRange = ready .inRange;
+          number = ready .number;
+          here = rw old-size (ready .here);
+          below = rw old-size (ready .below);
+          apart = ready .apart;
+          old = ready .old;
+          small = rw old-sum (joined-below (ready .small) (fits-below out-fits) (omega arith));
+        }
+
+    -- and has them then
+    pub both-kept : {x : Figures} {after : List ℕ} → LeadKept x x lead space after → LeadKept x (oldAndNewOutflow old x) lead before after
+    both-kept {x} k =
+        record {
+          fits = k .fits;
+          placed = k .placed;
+          added = k .added ∙ rw (old-sum, brought) (old-then-new _ old x);
+          others = λ p a b. k .others p a b ∙ old-others p b;
+          size = k .size ∙ old-size;
+        }
+
+    -- so with a step, whose code adds the old ones first
+    pub step-worked :
+        {r : FiguresAnswer} {after : List ℕ}
+        → LeadWorked (λ x. x) r c lead old space after
+        → LeadWorked (oldAndNewOutflow old) r c lead old before after
+    step-worked w =
+        record {
+          answer = rw (old-others (lead .here) (λ e. ready .apart (sym e))) at (w .answer);
+          kept = λ x e. both-kept (w .kept x e);
+        }
+
+-- the new figures put at the element's place, and added at the place below
+module _ (c : ElementInput) (lead : Lead) (old : Figures) (space : List ℕ) (ready : LeadReady mostSum c lead old space) (x : Figures) (fits : FiguresFit x) where
+  pub places-ready : PlacesReady space (lead .here) (lead .below) x
+  places-ready =
+      record { hereRoom = ready .here; belowRoom = ready .below; apart = ready .apart; small = ready .small; fits = fits }
+
+  pub new-kept : {after : List ℕ} → after ≡ putAndAdded space (lead .here) (lead .below) x → LeadKept x x lead space after
+  new-kept is =
+      record {
+        fits = fits;
+        placed = rw is (put-other placed (lead .below) sum (lead .here) (λ e. ready .apart (sym e)) ∙ put-here space (lead .here) x (ready .here));
+        added = rw is (put-here placed (lead .below) sum (rw (put-length space (lead .here) x) (ready .below)));
+        others = λ p a b. rw is (put-other placed (lead .below) sum p b ∙ put-other space (lead .here) x p a);
+        size = rw is (put-length placed (lead .below) sum ∙ put-length space (lead .here) x);
+      }
+    where
+      placed : List ℕ
+      placed = put space (lead .here) x
+
+      sum : Figures
+      sum = joinedInflow (figuresAt space (lead .below)) x
+
+-- so before the old ones are added
+module _ (c : ElementInput) (lead : Lead) (old : Figures) (before : List ℕ) (ready : LeadReady mostSumBefore c lead old before) where
+  pub ready-first : LeadReady mostSum c lead old before
+  ready-first =
+      record {
+        inRange = ready .inRange;
+        number = ready .number;
+        here = ready .here;
+        below = ready .below;
+        apart = ready .apart;
+        old = ready .old;
+        small = below-most (ready .small) (omega arith);
+      }
+
+  -- which then follow
+  module _ (x : Figures) (space : List ℕ) (k : LeadKept x x lead before space) (out : Figures) (brought : out ≡ oldOutflow old) where
+    room : 4 * lead .below + 3 < length space
+    room = rw (k .size) (ready .below)
+
+    pub old-ready-last : (4 * lead .below + 3 < length space) × (FiguresBelow (figuresAt space (lead .below)) mostSum × FiguresFit out)
+    old-ready-last =
+        (room, (rw (k .added) (joined-below (ready .small) (fits-below (k .fits)) (omega arith)), rw brought (old-outflow-fits (ready .old))))
+
+    pub both-kept-last : {after : List ℕ} → after ≡ added space (lead .below) out → LeadKept x (oldAndNewOutflow old x) lead before after
+    both-kept-last is =
+        record {
+          fits = k .fits;
+          placed = rw is (put-other space (lead .below) _ (lead .here) (λ e. ready .apart (sym e)) ∙ k .placed);
+          added = rw is (put-here space (lead .below) _ room ∙ rw (k .added, brought) (new-then-old _ old x));
+          others = λ p a b. rw is (put-other space (lead .below) _ p b ∙ k .others p a b);
+          size = rw is (put-length space (lead .below) _ ∙ k .size);
+        }
+
+-- ---- what is answered
 
 -- the figures that drain in, as they were read, and what the element answered of them
 module _
@@ -39,7 +158,10 @@ module _
   unfolding elementAnswer leadStep leadStepNumbers
   known = rw (← read) (answered .0)
 
-  pub lead-refused : {k : Refusal} {after : List ℕ} → r ≡ Refused k → LeadWorked (Refused AboveCeiling) c lead old before after
+  pub lead-refused :
+      {letOut : Figures → Figures} {k : Refusal} {after : List ℕ}
+      → r ≡ Refused k
+      → LeadWorked letOut (Refused AboveCeiling) c lead old before after
   lead-refused e =
       record {
         answer = sym (same-refused _ _ _ (sym (ap figuresAnswer e) ∙ known));
@@ -47,26 +169,20 @@ module _
       }
 
   module _ (x : Figures) (e : r ≡ Accepted x) where
-    pub places-ready : LeadReady c lead old before → PlacesReady before (lead .here) (lead .below) x
-    places-ready h =
-        record { hereRoom = h .here; belowRoom = h .below; apart = h .apart; small = h .small; fits = accepted-fits e (answered .1) }
-
     pub lead-accepted :
-        {after : List ℕ}
-        → after ≡ putAndAdded before (lead .here) (lead .below) x
-        → LeadWorked (Accepted x) c lead old before after
-    lead-accepted {after} written =
+        (letOut : Figures → Figures) {after : List ℕ}
+        → LeadKept x (letOut x) lead before after
+        → LeadWorked letOut (Accepted x) c lead old before after
+    lead-accepted letOut {after} k =
         record {
           answer = sym (ap figuresAnswer e) ∙ known;
-          kept = λ y v.
-              subst (λ (z : Figures). LeadKept z lead before after) (same v)
-              (record { fits = accepted-fits e (answered .1); written = written });
+          kept = λ y v. subst (λ (z : Figures). LeadKept z (letOut z) lead before after) (same v) k;
         }
       where
         same : {y : Figures} → Accepted x ≡ Accepted y → x ≡ y
         same v = cc
 
--- a dam at a lead: its release, whatever it had before
+-- a dam at a lead: its release, whatever drains in
 module _ (c : ElementInput) (lead : Lead) (old : Figures) (before : List ℕ) (k : c .element .kind ≡ dam) (inRange : InputInRange c) where
   answered :
       (accepted (released (c .element) (c .own))
@@ -75,23 +191,32 @@ module _ (c : ElementInput) (lead : Lead) (old : Figures) (before : List ℕ) (k
       × FiguresFit (released (c .element) (c .own))
   answered = dam-answered _ _ _ old k (inRange .release k) (inRange .element .systemNoise)
 
-  pub released-fits : FiguresFit (released (c .element) (c .own))
-  released-fits = answered .1
-
   dam-lead :
       {after : List ℕ}
-      → after ≡ putAndAdded before (lead .here) (lead .below) (released (c .element) (c .own))
-      → LeadWorked (Accepted (released (c .element) (c .own))) c lead old before after
+      → LeadKept (released (c .element) (c .own)) (oldAndNewOutflow old (released (c .element) (c .own))) lead before after
+      → LeadWorked (oldAndNewOutflow old) (Accepted (released (c .element) (c .own))) c lead old before after
   unfolding AnsweredFiguresFit
-  dam-lead written =
-      lead-accepted c lead old before _ (Accepted (released (c .element) (c .own))) refl answered _ refl written
+  dam-lead kept =
+      lead-accepted c lead old before _ (Accepted (released (c .element) (c .own))) refl answered _ refl (oldAndNewOutflow old) kept
 
 pub dam-worked :
-    (c : ElementInput) (here below : ℕ) (before : List ℕ)
+    (c : ElementInput) (here below : ℕ) (old : Figures) (before : List ℕ)
     → c .element .kind ≡ dam
     → InputInRange c
-    → {after : List ℕ}
-    → after ≡ putAndAdded before here below (released (c .element) (c .own))
-    → DamWorked c here below before after
-dam-worked c here below before k inRange written =
-    record { at = λ number old. dam-lead c (record { number = number; here = here; below = below }) old before k inRange written }
+    → {x : Figures} {after : List ℕ}
+    → x ≡ released (c .element) (c .own)
+    → LeadKept x (oldAndNewOutflow old x) (stepLead here below) before after
+    → DamWorked x c here below old before after
+dam-worked c here below old before k inRange {after = after} is kept =
+    subst (λ (x : Figures). LeadKept x (oldAndNewOutflow old x) (stepLead here below) before after → DamWorked x c here below old before after)
+    (sym is) made kept
+  where
+    made :
+        LeadKept (released (c .element) (c .own)) (oldAndNewOutflow old (released (c .element) (c .own))) (stepLead here below) before after
+        → DamWorked (released (c .element) (c .own)) c here below old before after
+    made kept =
+        record {
+          at = λ number.
+              dam-lead c (record { number = number; here = here; below = below }) old before k inRange
+              (record { fits = kept .fits; placed = kept .placed; added = kept .added; others = kept .others; size = kept .size });
+        }

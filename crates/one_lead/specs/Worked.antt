@@ -10,11 +10,11 @@ use Rattle.method.specs.declared.Figures.{Figures}
 use Rattle.method.specs.declared.FiguresAnswer.{FiguresAnswer}
 use Rattle.method.specs.declared.FiguresAnswer.the-variants.{Accepted}
 use Rattle.method.specs.Figures.{figuresAnswer, FiguresFit}
+use Rattle.method.specs.Inflow.{joinedInflow, oldAndNewOutflow}
 use Rattle.elements.specs.Kinds.{dam}
 use Rattle.record.specs.Decoded.{ObservationFits}
 use Rattle.element_step.specs.Bounds.{ElementInRange}
-use Rattle.element_step.specs.ElementStep.{released}
-use Rattle.answer_space.specs.Places.{figuresAt, putAndAdded, mostSum, FiguresBelow}
+use Rattle.answer_space.specs.Places.{figuresAt, FiguresBelow}
 use Rattle.one_lead.specs.declared.ElementInput.{ElementInput}
 use Rattle.one_lead.specs.declared.Lead.{Lead}
 use Rattle.one_lead.specs.Leads.{leadStep, leadStepNumbers}
@@ -30,29 +30,36 @@ pub record InputInRange (c : ElementInput) : Type 0 where
   pub release : c .element .kind ≡ dam → c .own ≤ C
   pub observation : ObservationFits (c .observation)
 
-pub record LeadReady (c : ElementInput) (lead : Lead) (before : Figures) (space : List ℕ) : Type 0 where
+-- the sums at the place below are at most `most`
+pub record LeadReady (most : ℕ) (c : ElementInput) (lead : Lead) (before : Figures) (space : List ℕ) : Type 0 where
   pub inRange : InputInRange c
   pub number : lead .number ≤ 12
   pub here : 4 * lead .here + 3 < length space
   pub below : 4 * lead .below + 3 < length space
   pub apart : lead .below ≢ lead .here
   pub old : FiguresFit before
-  pub small : FiguresBelow (figuresAt space (lead .below)) mostSum
+  pub small : FiguresBelow (figuresAt space (lead .below)) most
 
--- the figures x of a lead stand at its place, and are added at the place below
-pub record LeadKept (x : Figures) (lead : Lead) (before after : List ℕ) : Type 0 where
+-- the figures x of a lead stand at its place, and what the element lets out is added at the place below
+pub record LeadKept (x out : Figures) (lead : Lead) (before after : List ℕ) : Type 0 where
   pub fits : FiguresFit x
-  pub written : after ≡ putAndAdded before (lead .here) (lead .below) x
+  pub placed : figuresAt after (lead .here) ≡ x
+  pub added : figuresAt after (lead .below) ≡ joinedInflow (figuresAt before (lead .below)) out
+  pub others : (p : ℕ) → p ≢ lead .here → p ≢ lead .below → figuresAt after p ≡ figuresAt before p
+  pub size : length after ≡ length before
 
-pub record LeadWorked (r : FiguresAnswer) (c : ElementInput) (lead : Lead) (old : Figures) (before after : List ℕ) : Type 0 where
+-- letOut: what is added at the place below, of the new figures
+pub record LeadWorked
+    (letOut : Figures → Figures) (r : FiguresAnswer) (c : ElementInput) (lead : Lead) (old : Figures) (before after : List ℕ)
+    : Type 0 where
   pub answer :
       figuresAnswer r
       ≡ underCeiling (leadStepNumbers c (lead .number) (figuresAt before (lead .here)) old)
       (leadStep c (lead .number) (figuresAt before (lead .here)) old)
-  pub kept : (x : Figures) → r ≡ Accepted x → LeadKept x lead before after
+  pub kept : (x : Figures) → r ≡ Accepted x → LeadKept x (letOut x) lead before after
 
--- the release of a dam stands at its place, and is added at the place below: at any lead, whatever it had before
-pub record DamWorked (c : ElementInput) (here below : ℕ) (before after : List ℕ) : Type 0 where
+-- so with the release of a dam, whatever the number of the lead
+pub record DamWorked (x : Figures) (c : ElementInput) (here below : ℕ) (old : Figures) (before after : List ℕ) : Type 0 where
   pub at :
-      (number : ℕ) (old : Figures)
-      → LeadWorked (Accepted (released (c .element) (c .own))) c (record { number = number; here = here; below = below }) old before after
+      (number : ℕ)
+      → LeadWorked (oldAndNewOutflow old) (Accepted x) c (record { number = number; here = here; below = below }) old before after

@@ -1,12 +1,13 @@
-// One element at one lead of a forecast, or at a step: its figures take the place of what drained into it, and are added to what drains
-// into the element below.
+// One element at one lead of a forecast, or at a step: its new figures take the place of what drained into it, and with its old ones are
+// added to what drains into the element below.
 ghost use mathlib.Core.Logic.{_≢_};
 ghost use mathlib.Core.Path.{_≡_};
+ghost use Rattle.method.specs.Inflow.{oldAndNewOutflow};
 ghost use Rattle.elements.specs.Kinds.{dam};
 ghost use Rattle.record.specs.declared.Observation.the-variants.{Nothing};
-ghost use Rattle.element_step.specs.ElementStep.{released};
-ghost use Rattle.answer_space.specs.Places.{PlacesReady};
-ghost use Rattle.one_lead.specs.Worked.{stepLead, InputInRange, LeadReady, LeadWorked, DamWorked};
+ghost use Rattle.answer_space.specs.Places.{mostSum, mostSumBefore};
+ghost use Rattle.one_lead.specs.Worked.{stepLead, LeadReady, LeadWorked, DamWorked};
+use answer_space::add_figures;
 use answer_space::figures_at;
 use answer_space::put_and_add;
 use element_step::Intake;
@@ -14,6 +15,7 @@ use element_step::dam_figures;
 use element_step::lead_element;
 use element_step::step_element;
 use elements::Element;
+use inflow::old_outflow;
 use method::Figures;
 use method::FiguresAnswer;
 use record::Observation;
@@ -39,8 +41,8 @@ pub struct Lead {
 // One lead of an element that stores water, from its figures before it: its figures, which now stand at its place, where what drains into it
 // stood.
 pub fn work_lead(input: ElementInput, lead: Lead, old: Figures, space: &mut [u64]) -> FiguresAnswer
-    requires { ⌜ LeadReady input lead old (now space) × ((input .observation ≡ Nothing) × (input .element .kind ≢ dam)) ⌝ }
-    ensures { λ r. ⌜ LeadWorked r input lead old (now (space .entry)) (now (space .exit)) ⌝ }
+    requires { ⌜ LeadReady mostSumBefore input lead old (now space) × ((input .observation ≡ Nothing) × (input .element .kind ≢ dam)) ⌝ }
+    ensures { λ r. ⌜ LeadWorked (oldAndNewOutflow old) r input lead old (now (space .entry)) (now (space .exit)) ⌝ }
 {
     let above = figures_at(&*space, lead.here);
     let observation = input.observation;
@@ -53,19 +55,30 @@ pub fn work_lead(input: ElementInput, lead: Lead, old: Figures, space: &mut [u64
     let FiguresAnswer::Accepted(new) = lead_element(input.element, input.weight, intake, old) else {
         return FiguresAnswer::Refused(Refusal::AboveCeiling);
     };
+    add_figures(&mut *space, lead.below, old_outflow(old));
     put_and_add(&mut *space, lead.here, lead.below, new);
     FiguresAnswer::Accepted(new)
 }
 
-// One lead of a dam: it lets out its release.
-pub fn hold_lead(input: ElementInput, here: usize, below: usize, space: &mut [u64])
-    requires { ⌜ (InputInRange input × (input .element .kind ≡ dam)) × PlacesReady (now space) here below (released (input .element) (input .own)) ⌝ }
-    ensures { λ _. ⌜ DamWorked input here below (now (space .entry)) (now (space .exit)) ⌝ }
+// One lead of a dam, from its figures before it: its figures, those of its release. (The old ones are added last: with them first the loop
+// that the compiler makes of the other elements' leads takes more instructions.)
+pub fn hold_lead(
+    input: ElementInput,
+    here: usize,
+    below: usize,
+    old: Figures,
+    space: &mut [u64],
+) -> Figures
+    requires { ⌜ LeadReady mostSumBefore input (stepLead here below) old (now space) × (input .element .kind ≡ dam) ⌝ }
+    ensures { λ r. ⌜ DamWorked r input here below old (now (space .entry)) (now (space .exit)) ⌝ }
 {
-    put_and_add(space, here, below, dam_figures(input.element, input.own));
+    let released = dam_figures(input.element, input.own);
+    put_and_add(&mut *space, here, below, released);
+    add_figures(space, below, old_outflow(old));
+    released
 }
 
-// The step of an element, in the same way as a lead.
+// The step of an element, in the same way as a lead, but that its old figures have been added at the place below already.
 pub fn work_step(
     input: ElementInput,
     here: usize,
@@ -73,8 +86,8 @@ pub fn work_step(
     old: Figures,
     space: &mut [u64],
 ) -> FiguresAnswer
-    requires { ⌜ LeadReady input (stepLead here below) old (now space) ⌝ }
-    ensures { λ r. ⌜ LeadWorked r input (stepLead here below) old (now (space .entry)) (now (space .exit)) ⌝ }
+    requires { ⌜ LeadReady mostSum input (stepLead here below) old (now space) ⌝ }
+    ensures { λ r. ⌜ LeadWorked (λ x. x) r input (stepLead here below) old (now (space .entry)) (now (space .exit)) ⌝ }
 {
     let above = figures_at(&*space, here);
     let observation = input.observation;

@@ -17,7 +17,7 @@ use Rattle.river.specs.declared.Rating.{Rating}
 
 -- the version of the interface
 abbrev pub version : ℕ
-version = 3
+version = 4
 
 -- the number for no; 0 where the call is accepted
 unfoldable pub refusalOf : {A : Type 0} → Answer A → ℕ

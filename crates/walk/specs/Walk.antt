@@ -4,8 +4,8 @@ use mathlib.Core.Bool.{cond}
 use mathlib.Core.List.{List, [], _∷_}
 use lib.Dec.{eqb}
 
--- "the sums of the new ones of all elements draining into it, 0 if none": of the elements done, each with the number that it
--- drains into and what it lets out, those that drain into element number k
+-- "the sums .. of all elements draining into it, 0 if none": of the elements done, each with the number that it drains into and what it
+-- lets out, those that drain into element number k
 unfoldable pub drained : {B : Type 0} → B → (B → B → B) → ℕ → List (ℕ × B) → B
 drained none plus k [] = none
 drained none plus k (d ∷ done) = cond (eqb (d .0) k) (plus (drained none plus k done) (d .1)) (drained none plus k done)

@@ -1,21 +1,13 @@
 -- `store_element` meets its contract.
-use Prim.Native.Nat.{_+_, _*_, _≤_, _-_}
-use mathlib.Core.Path.{_≡_, refl, sym, subst, _∙_}
+use Prim.Native.Nat.{_-_}
 use borrow.Author.Needs.{needs}
 use native.Mathlib.Omega.{arith}
-use lib.ListN.{length}
-use Rattle.method.specs.Figures.{FiguresFit}
-use Rattle.lead_walk.specs.Leads.{figuresAfter}
-use Rattle.lead_walk.specs.Worked.{drainedAt, LeadsDone}
-use Rattle.lead_walk.proofs.LeadsLaws.{done-begin, first-is, places-apart, below-small, element-refused, next-length, done-again, old-again, element-accepted}
+use Rattle.lead_walk.proofs.LeadsLaws.{LeadsSoFar, leads-begin, lead-ready, number-few, leads-refused, leads-again, leads-done, element-accepted}
 use Rattle.lead_walk.proofs.store_element.Statement.{statement}
 use Rattle.lead_walk.proofs.store_element.Tie as tie
 
 abbrev Inv-loop : tie.InvT-loop
-Inv-loop input here below leads space₀ first-number old₀ k₀ space old k =
-    (k ≤ leads)
-    × ((length space ≡ length space₀)
-    × ((old ≡ figuresAfter input old₀ (drainedAt space₀ here) k) × LeadsDone input old₀ here below k space₀ space))
+Inv-loop input here below leads space₀ first-number old₀ k₀ space old k = LeadsSoFar input old₀ here below leads space₀ k space old
 
 abbrev μ-loop : tie.MeasureT-loop
 μ-loop input here below leads space₀ first-number old₀ k₀ space old k = leads - k
@@ -23,15 +15,8 @@ abbrev μ-loop : tie.MeasureT-loop
 abbrev start : tie.In-loop Inv-loop μ-loop → tie.Start Inv-loop μ-loop
 start c = c .before .before .before
 
-module _ (c : tie.In-loop Inv-loop μ-loop) where
-  hereRoom : 4 * (start c .args .here + start c .args .leads) ≤ length (c .before .loop .space)
-  hereRoom = omega (arith, start c .pre .0 .places .hereRoom, c .before .loop .inv .1 .0)
-
-  belowRoom : 4 * (start c .args .below + start c .args .leads) ≤ length (c .before .loop .space)
-  belowRoom = omega (arith, start c .pre .0 .places .belowRoom, c .before .loop .inv .1 .0)
-
 loop-holds : tie.Need-loop-holds Inv-loop μ-loop
-loop-holds c = (omega arith, (refl, (first-is _ _ (c .before .args .here) (c .before .args .below) _, done-begin _ _ _ _ _ (c .before .pre .0 .fits))))
+loop-holds c = leads-begin _ _ _ _ _ _ (c .before .pre .0 .fits)
 
 add-t14 : tie.Need-add-t14 Inv-loop μ-loop
 add-t14 c = omega (arith, c .loop-test .taken, start c .pre .0 .places .short, start c .pre .0 .inRange .firstLead)
@@ -45,21 +30,10 @@ add-t16 c = omega (arith, c .loop-test .taken, start c .pre .0 .places .belowRoo
 work-lead-requires : tie.Need-work-lead-requires Inv-loop μ-loop
 work-lead-requires c κs =
     let l = c .before in
-    let p = start l .pre .0 in
-    let inv = l .before .loop .inv .1 in
-    let h = inv .1 .1 in
-    let less = l .loop-test .taken in
-    let k = l .before .loop .k in (
-      record {
-        inRange = p .inRange;
-        number = omega (arith, less, p .places .short, p .inRange .firstLead);
-        here = omega (arith, less, hereRoom l);
-        below = omega (arith, less, belowRoom l);
-        apart = places-apart _ _ _ _ _ k _ _ _ h (inv .1 .0) less (p .places .apart);
-        old = subst FiguresFit (sym (inv .1 .0)) (h .fits k (omega arith));
-        small = below-small _ _ _ _ _ k _ _ _ h (inv .1 .0) less (p .places .apart) (p .places .small k less);
-      },
-      (p .nothing, start l .pre .1),
+    let p = start l .pre in (
+      lead-ready _ _ _ _ _ _ (p .0 .places) _ _ _ (l .before .loop .inv) (l .loop-test .taken) (p .0 .inRange) _
+          (number-few _ _ _ _ _ _ (p .0 .places) _ _ _ (l .before .loop .inv) (l .loop-test .taken) (p .0 .inRange)),
+      (p .0 .nothing, p .1),
     )
 
 enum-known-new : tie.Need-enum-known-new Inv-loop μ-loop
@@ -75,8 +49,8 @@ returns : tie.Need-returns Inv-loop μ-loop
 returns c =
     let w = c .before .before .before .before in
     let l = w .before .before in
-    let inv = l .before .loop .inv .1 in
-    element-refused _ _ _ _ _ _ _ _ _ (inv .1 .1) (inv .1 .0) (l .loop-test .taken) (start l .pre .0 .places .apart) _ _ (w .work-lead .ensures) (c .enum-told .given .1)
+    leads-refused _ _ _ _ _ _ (start l .pre .0 .places) _ _ _ (l .before .loop .inv) (l .loop-test .taken) _ _ (w .work-lead .ensures)
+    (c .enum-told .given .1)
 
 add-k : tie.Need-add-k Inv-loop μ-loop
 add-k c =
@@ -90,25 +64,15 @@ loop-again : tie.Need-loop-again Inv-loop μ-loop
 loop-again c =
     let w = c .before .before .before .before .before in
     let l = w .before .before in
-    let inv = l .before .loop .inv .1 in
-    let less = l .loop-test .taken in
-    let x = c .before .new .given in
-    let apart = start l .pre .0 .places .apart in (
-      omega (arith, less),
-      (
-        next-length _ _ _ _ _ _ _ _ _ (inv .1 .1) (inv .1 .0) less apart _ _ (w .work-lead .ensures) _ (x .1) (hereRoom l) (belowRoom l) ∙ inv .0,
-        (
-          old-again _ _ _ _ _ _ _ _ _ (inv .1 .1) (inv .1 .0) less apart _ _ (w .work-lead .ensures) _ (x .1) (hereRoom l) (belowRoom l),
-          done-again _ _ _ _ _ _ _ _ _ (inv .1 .1) (inv .1 .0) less apart _ _ (w .work-lead .ensures) _ (x .1) (hereRoom l) (belowRoom l),
-        ),
-      ),
-    )
+    leads-again _ _ _ _ _ _ (start l .pre .0 .places) _ _ _ (l .before .loop .inv) (l .loop-test .taken) _ _ (w .work-lead .ensures)
+    (c .before .new .given .1)
 
 same-length-2 : tie.Need-same-length-2 Inv-loop μ-loop
 same-length-2 c = search needs
 
 returns-2 : tie.Need-returns-2 Inv-loop μ-loop
-returns-2 c = element-accepted _ _ _ _ _ _ _ _ (omega arith) (c .before .loop .inv .1 .1 .1)
+returns-2 c =
+    let l = c .before .loop in element-accepted (leads-done (omega (arith, l .inv .few, c .loop-test .left)) (l .inv))
 
 pub store-element-spec : {M : Type 1} → statement M
 store-element-spec =

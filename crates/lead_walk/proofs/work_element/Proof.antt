@@ -1,5 +1,4 @@
 -- `work_element` meets its contract.
-use mathlib.Core.Path.{refl}
 use borrow.Author.Needs.{needs}
 use Rattle.lead_walk.proofs.LeadsLaws.{element-accepted}
 use Rattle.lead_walk.proofs.work_element.Statement.{statement}
@@ -12,10 +11,7 @@ same-length : tie.Need-same-length
 same-length c = search needs
 
 returns : tie.Need-returns
-returns c =
-    let h = c .before .before in
-    let k = h .before .before in
-    element-accepted _ _ _ _ _ _ _ _ refl (h .hold-dam .ensures .from _ (k .before .before .before .before .pre .fits))
+returns c = element-accepted (c .before .before .hold-dam .ensures)
 
 store-element-requires : tie.Need-store-element-requires
 store-element-requires c κs = search needs

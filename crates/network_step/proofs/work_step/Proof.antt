@@ -14,11 +14,13 @@ use Rattle.record.specs.Records.{inputObservation}
 use Rattle.record.specs.GaugeOrder.{gaugesBefore}
 use Rattle.record.proofs.RecordLaws.{kind-read}
 use Rattle.record.proofs.GaugeOrderLaws.{gauges-none, gauges-more, gauges-most, here-used, observation-found}
+use Rattle.answer_space.specs.Places.{mostSumBefore}
 use Rattle.one_lead.specs.Worked.{stepLead, LeadReady}
+use Rattle.one_lead.proofs.LeadLaws.{new-ready}
 use Rattle.lead_walk.proofs.LeadsLaws.{work-step-refused, work-step-done}
 use Rattle.network_step.specs.declared.StepInput.{StepInput}
 use Rattle.network_step.specs.Inputs.{inputOf, stepInput}
-use Rattle.network_step.proofs.StepLaws.{PassedBefore, passed-none, passed-more, passed-few, rain-most, rain-room, release-room, Stepping, stepping-begin, step-ready, stepping-again, stepping-refused, stepping-done}
+use Rattle.network_step.proofs.StepLaws.{PassedBefore, passed-none, passed-more, passed-few, rain-most, rain-room, release-room, Stepping, stepping-begin, old-outflow-ready, old-added, step-ready, stepping-again, stepping-refused, stepping-done}
 use Rattle.network_step.proofs.work_step.Statement.{statement}
 use Rattle.network_step.proofs.work_step.Tie as tie
 
@@ -61,11 +63,17 @@ seen c =
     ∙ observation-found _ (p .accepts .bounds) _ (p .held) _ (l .before .loop .inv .1 .1 .1 .0) (c .before .gauge-here .ensures .0)
 
 -- its turn, from later points
+abbrev old-point : tie.After-step-input Inv-loop μ-loop → tie.After-add-old-outflow Inv-loop μ-loop
+old-point c = c .before .before .before
+
+abbrev weight-point : tie.After-step-input Inv-loop μ-loop → tie.After-weight-of Inv-loop μ-loop
+weight-point c = old-point c .before .before
+
 abbrev observation-point : tie.After-step-input Inv-loop μ-loop → tie.After-observation-here Inv-loop μ-loop
-observation-point c = c .before .before
+observation-point c = weight-point c .before
 
 abbrev turn : tie.After-step-input Inv-loop μ-loop → tie.In-loop Inv-loop μ-loop
-turn c = c .before .before .before .before
+turn c = observation-point c .before .before
 
 abbrev input-point : tie.After-work-step-arg Inv-loop μ-loop → tie.After-step-input Inv-loop μ-loop
 input-point c = c .before .before .before .before
@@ -88,18 +96,18 @@ module _ (c : tie.After-step-input Inv-loop μ-loop) where
   passed-on =
       passed-more _ _ (counted (turn c)) (kind-read _ _ (used (turn c)) refl) (ap (λ (x : StepInput). x .passed) (c .step-input .ensures))
 
--- it is ready to be worked out
+-- it is ready to be worked out, from its old figures on
 ready :
     (c : tie.After-work-step-arg Inv-loop μ-loop)
     → let i = input-point c in
     let l = turn i in
-    LeadReady (i .step-input .result .input) (stepLead (l .before .loop .i + 1) (i .step-input .result .input .element .down))
+    LeadReady mostSumBefore (i .step-input .result .input) (stepLead (l .before .loop .i + 1) (i .step-input .result .input .element .down))
     (c .before .figures-of .result) (l .before .loop .space)
 ready c =
     let i = input-point c in
     let l = turn i in
     let p = start l .pre in
-    let w = i .before .weight-of .ensures in
+    let w = weight-point i .weight-of .ensures in
     let inv = l .before .loop .inv .1 in
     step-ready _ _ _ _ (used l) (w .0) (p .0 .counted) (counted l) (seen (observation-point i)) _ (p .0 .accepts) (p .0 .kept) (p .0 .state) (w .1)
     (ap (λ (x : StepInput). x .input) (i .step-input .ensures)) (c .before .figures-of .ensures) (inv .1 .1 .1)
@@ -128,9 +136,16 @@ weight-of-requires c κs =
     let p = start l .pre .0 in
     record { element = record { table = p .accepts; step = header l .step; used = used l }; weights = p .weights }
 
+add-old-outflow-requires : tie.Need-add-old-outflow-requires Inv-loop μ-loop
+add-old-outflow-requires c κs =
+    let l = c .before .before .before .before in
+    let p = start l .pre in
+    let inv = l .before .loop .inv .1 in
+    old-outflow-ready _ _ _ _ _ (p .0 .accepts) (p .0 .state) (used l) (inv .1 .1 .1) (omega (arith, p .1 .room, inv .0))
+
 step-input-requires : tie.Need-step-input-requires Inv-loop μ-loop
 step-input-requires c κs =
-    let l = c .before .before .before in
+    let l = c .before .before .before .before .before .before .before in
     let p = start l .pre .0 in
     let a = p .accepts in
     let e = element-bounds _ a (used l) in
@@ -151,7 +166,9 @@ add-work-step : tie.Need-add-work-step Inv-loop μ-loop
 add-work-step c = omega (arith, within (turn (c .before .before .before)))
 
 work-step-requires : tie.Need-work-step-requires Inv-loop μ-loop
-work-step-requires c κs = ready c
+work-step-requires c κs =
+    let i = input-point c in
+    new-ready _ _ _ _ (ready c) _ refl _ (old-added _ _ _ _ (element-taken i) (c .before .figures-of .ensures) (old-point i .add-old-outflow .ensures))
 
 enum-told : tie.Need-enum-told Inv-loop μ-loop
 enum-told c = search needs
@@ -169,9 +186,9 @@ returns c =
     let e = c .before .before .before .before in
     let i = input-point (e .before) in
     let l = turn i in
-    stepping-refused _ _ _ _ (used l) (i .before .weight-of .ensures .0) (start l .pre .0 .counted) (counted l) (seen (observation-point i)) _ (l .before .loop .inv .1 .1 .1 .1)
+    stepping-refused _ _ _ _ (used l) (weight-point i .weight-of .ensures .0) (start l .pre .0 .counted) (counted l) (seen (observation-point i)) _ (l .before .loop .inv .1 .1 .1 .1)
     _ (ap (λ (x : StepInput). x .input) (i .step-input .ensures)) _ (e .before .before .figures-of .ensures)
-    (work-step-refused _ _ _ _ _ _ (lead-zero i) (ready (e .before)) _ (e .work-step .ensures) (c .enum-told2 .given .1))
+    (work-step-refused _ _ _ _ _ _ _ (lead-zero i) (ready (e .before)) (old-added _ _ _ _ (element-taken i) (e .before .before .figures-of .ensures) (old-point i .add-old-outflow .ensures)) _ (e .work-step .ensures) (c .enum-told2 .given .1))
 
 abbrev worked : tie.After-passed Inv-loop μ-loop → tie.After-work-step Inv-loop μ-loop
 worked c = c .before .before .before .before .before
@@ -186,7 +203,7 @@ add-i : tie.Need-add-i Inv-loop μ-loop
 add-i c = omega (arith, within (turn (input-point (worked c .before))))
 
 loop-less : tie.Need-loop-less Inv-loop μ-loop
-loop-less c = search needs
+loop-less c = omega (arith, turn (input-point (worked c .before)) .loop-test .taken)
 
 loop-again : tie.Need-loop-again Inv-loop μ-loop
 loop-again c =
@@ -203,9 +220,9 @@ loop-again c =
           passed-on i,
           (
             gauges-more _ _ (inv .1 .1 .0) (g .gauge-here .ensures .0),
-            stepping-again _ _ _ _ (used l) (i .before .weight-of .ensures .0) (p .counted) (counted l) (seen (observation-point i)) _ (inv .1 .1 .1)
+            stepping-again _ _ _ _ (used l) (weight-point i .weight-of .ensures .0) (p .counted) (counted l) (seen (observation-point i)) _ (inv .1 .1 .1)
                 _ (ap (λ (x : StepInput). x .input) (i .step-input .ensures)) _ (e .before .before .figures-of .ensures) _ (ap (λ (x : Element). x .down) (element-taken i))
-                (work-step-done _ _ _ _ _ _ (lead-zero i) (ready (e .before)) _ (e .work-step .ensures) (c .before .enum-told .given .1))
+                (work-step-done _ _ _ _ _ _ _ (lead-zero i) (ready (e .before)) (old-added _ _ _ _ (element-taken i) (e .before .before .figures-of .ensures) (old-point i .add-old-outflow .ensures)) _ (e .work-step .ensures) (c .before .enum-told .given .1))
                 (element-bounds _ (p .accepts) (used l) .later),
           ),
         ),
@@ -230,6 +247,7 @@ work-step-spec =
     gauge-here-requires
     observation-here-requires
     weight-of-requires
+    add-old-outflow-requires
     step-input-requires
     figures-of-requires
     add-work-step

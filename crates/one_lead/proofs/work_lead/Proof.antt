@@ -1,8 +1,21 @@
 -- `work_lead` meets its contract.
 use borrow.Author.Needs.{needs}
-use Rattle.one_lead.proofs.LeadLaws.{lead-refused, places-ready, lead-accepted}
+use Rattle.method.proofs.FiguresLaws.{accepted-fits}
+use Rattle.method.specs.Inflow.{oldAndNewOutflow}
+use Rattle.one_lead.proofs.LeadLaws.{lead-refused, old-ready, new-ready, places-ready, new-kept, both-kept, lead-accepted}
 use Rattle.one_lead.proofs.work_lead.Statement.{statement}
 use Rattle.one_lead.proofs.work_lead.Tie as tie
+
+-- from where the old figures are added: the new ones, and the start
+module _ (c : tie.After-old-outflow) where
+  abbrev given : tie.After-new
+  given = c .before .before .before
+
+  abbrev answered : tie.After-lead-element
+  answered = given .before .before
+
+  abbrev start : tie.Start
+  start = answered .before .before .before .before
 
 figures-at-requires : tie.Need-figures-at-requires
 figures-at-requires c κs = search needs
@@ -24,22 +37,36 @@ returns c =
     let e = c .before .before in
     lead-refused _ _ _ _ _ _ (e .before .figures-at .ensures) (e .lead-element .ensures) (c .enum-told .given .1)
 
+old-outflow-requires : tie.Need-old-outflow-requires
+old-outflow-requires c κs = search needs
+
+add-figures-requires : tie.Need-add-figures-requires
+add-figures-requires c κs = old-ready _ _ _ _ (start c .pre .0) _ (c .old-outflow .ensures)
+
 put-and-add-requires : tie.Need-put-and-add-requires
 put-and-add-requires c κs =
-    let x = c .before .before in
-    let e = x .before .before in
-    let s = e .before .before .before .before in
-    places-ready _ _ _ _ _ _ (e .before .figures-at .ensures) (e .lead-element .ensures) _ (x .new .given .1) (s .pre .0)
+    let a = c .before .before .before in
+    let o = a .before in
+    let e = answered o in
+    places-ready _ _ _ _ (new-ready _ _ _ _ (start o .pre .0) _ (o .old-outflow .ensures) _ (a .add-figures .ensures)) _
+    (accepted-fits (given o .new .given .1) (e .lead-element .ensures .1))
 
 same-length-2 : tie.Need-same-length-2
 same-length-2 c = search needs
 
 returns-2 : tie.Need-returns-2
 returns-2 c =
-    let a = c .before .before in
-    let x = a .before .before .before in
-    let e = x .before .before in
-    lead-accepted _ _ _ _ _ _ (e .before .figures-at .ensures) (e .lead-element .ensures) _ (x .new .given .1) (a .put-and-add .ensures)
+    let p = c .before .before in
+    let a = p .before .before .before .before in
+    let o = a .before in
+    let e = answered o in
+    let read = e .before .figures-at .ensures in
+    let x = given o .new .given .1 in
+    let ready = start o .pre .0 in
+    lead-accepted _ _ _ _ _ _ read (e .lead-element .ensures) _ x (oldAndNewOutflow _)
+    (both-kept _ _ _ _ ready _ (o .old-outflow .ensures) _ (a .add-figures .ensures)
+    (new-kept _ _ _ _ (new-ready _ _ _ _ ready _ (o .old-outflow .ensures) _ (a .add-figures .ensures)) _
+    (accepted-fits x (e .lead-element .ensures .1)) (p .put-and-add .ensures)))
 
 pub work-lead-spec : {M : Type 1} → statement M
 work-lead-spec =
@@ -51,6 +78,8 @@ work-lead-spec =
     enum-told
     same-length
     returns
+    old-outflow-requires
+    add-figures-requires
     put-and-add-requires
     same-length-2
     returns-2)

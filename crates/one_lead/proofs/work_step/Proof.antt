@@ -1,6 +1,7 @@
 -- `work_step` meets its contract.
 use borrow.Author.Needs.{needs}
-use Rattle.one_lead.proofs.LeadLaws.{lead-refused, places-ready, lead-accepted}
+use Rattle.method.proofs.FiguresLaws.{accepted-fits}
+use Rattle.one_lead.proofs.LeadLaws.{lead-refused, places-ready, new-kept, lead-accepted}
 use Rattle.one_lead.proofs.work_step.Statement.{statement}
 use Rattle.one_lead.proofs.work_step.Tie as tie
 
@@ -29,7 +30,7 @@ put-and-add-requires c κs =
     let x = c .before .before in
     let e = x .before .before in
     let s = e .before .before .before .before in
-    places-ready _ _ _ _ _ _ (e .before .figures-at .ensures) (e .step-element .ensures) _ (x .new .given .1) (s .pre)
+    places-ready _ _ _ _ (s .pre) _ (accepted-fits (x .new .given .1) (e .step-element .ensures .1))
 
 same-length-2 : tie.Need-same-length-2
 same-length-2 c = search needs
@@ -39,7 +40,10 @@ returns-2 c =
     let a = c .before .before in
     let x = a .before .before .before in
     let e = x .before .before in
-    lead-accepted _ _ _ _ _ _ (e .before .figures-at .ensures) (e .step-element .ensures) _ (x .new .given .1) (a .put-and-add .ensures)
+    let read = e .before .figures-at .ensures in
+    let s = e .before .before .before .before in
+    lead-accepted _ _ _ _ _ _ read (e .step-element .ensures) _ (x .new .given .1) (λ y. y)
+    (new-kept _ _ _ _ (s .pre) _ (accepted-fits (x .new .given .1) (e .step-element .ensures .1)) (a .put-and-add .ensures))
 
 pub work-step-spec : {M : Type 1} → statement M
 work-step-spec =
