@@ -30,6 +30,24 @@ use Rattle.one_lead.specs.Worked.{stepLead, InputInRange, LeadReady, Lea
 
 -- ---- what is left in the space
 
+-- ready for the new figures, with the old ones added already or not yet
+ready-at :
+    (c : ElementInput) (lead : Lead) (old : Figures) (before space : List ℕ)
+    → LeadReady mostSumBefore c lead old before
+    → length space ≡ length before
+    → FiguresBelow (figuresAt space (lead .below)) mostSum
+    → LeadReady mostSum c lead old space
+ready-at c lead old before space ready size small =
+    record {
+      inRange = ready .inRange;
+      number = ready .number;
+      here = rw size (ready .here);
+      below = rw size (ready .below);
+      apart = ready .apart;
+      old = ready .old;
+      small = small;
+    }
+
 -- the old figures added at the place below
 module _
     (c : ElementInput) (lead : Lead) (old : Figures) (before : List ℕ) (ready : LeadReady mostSumBefore c lead old before) (out : Figures)
@@ -53,15 +71,7 @@ module _
     -- it is ready for the new ones
     pub new-ready : LeadReady mostSum c lead old space
     new-ready =
-        record {
-          inRange = ready .inRange;
-          number = ready .number;
-          here = rw old-size (ready .here);
-          below = rw old-size (ready .below);
-          apart = ready .apart;
-          old = ready .old;
-          small = rw old-sum (joined-below (ready .small) (fits-below out-fits) (omega arith));
-        }
+        ready-at c lead old before space ready old-size (rw old-sum (joined-below (ready .small) (fits-below out-fits) (omega arith)))
 
     -- and has them then
     pub both-kept : {x : Figures} {after : List ℕ} → LeadKept x x lead space after → LeadKept x (oldAndNewOutflow old x) lead before after
@@ -110,16 +120,7 @@ module _ (c : ElementInput) (lead : Lead) (old : Figures) (space : List ℕ) (re
 -- so before the old ones are added
 module _ (c : ElementInput) (lead : Lead) (old : Figures) (before : List ℕ) (ready : LeadReady mostSumBefore c lead old before) where
   pub ready-first : LeadReady mostSum c lead old before
-  ready-first =
-      record {
-        inRange = ready .inRange;
-        number = ready .number;
-        here = ready .here;
-        below = ready .below;
-        apart = ready .apart;
-        old = ready .old;
-        small = below-most (ready .small) (omega arith);
-      }
+  ready-first = ready-at c lead old before before ready refl (below-most (ready .small) (omega arith))
 
   -- which then follow
   module _ (x : Figures) (space : List ℕ) (k : LeadKept x x lead before space) (out : Figures) (brought : out ≡ oldOutflow old) where
