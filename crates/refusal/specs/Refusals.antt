@@ -1,4 +1,4 @@
--- Document 01, Numbers for no, and document 02, M-100: the number of each refusal, in checking order.
+-- Document 01, Numbers for no, and document 02, M-100 and M-104: the number of each refusal, in checking order.
 use Prim.Native.Nat.{ℕ}
 use Rattle.refusal.specs.declared.Refusal.{Refusal}
 use Rattle.refusal.specs.declared.Refusal.the-variants.{
@@ -16,6 +16,7 @@ use Rattle.refusal.specs.declared.Refusal.the-variants.{
   RainRange,
   ReleaseRange,
   StageRange,
+  FloatRange,
   ReadingRange,
   AnswerSpace,
   AboveCeiling,
@@ -36,6 +37,7 @@ number RecordVersion = 11
 number RainRange = 12
 number ReleaseRange = 17
 number StageRange = 13
+number FloatRange = 18
 number ReadingRange = 14
 number AnswerSpace = 15
 number AboveCeiling = 16
