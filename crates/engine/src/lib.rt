@@ -28,7 +28,7 @@ pub fn start(table: &[u8], state: &mut [u64; STATE_NUMBERS]) -> Verdict
     }
 }
 
-// A step on an accepted table and the bytes of a record: rules 8 to 14, 16 and 17.
+// A step on an accepted table and the bytes of a record: rules 8 to 14 and 16 to 18.
 fn step_counted(
     table: &[u8],
     counts: Counts,
@@ -45,7 +45,7 @@ fn step_counted(
     step_from(table, counts, &none, bytes, state)
 }
 
-// A step on the bytes of a table and of a record: rules 1 to 14, 16 and 17.
+// A step on the bytes of a table and of a record: rules 1 to 14 and 16 to 18.
 pub fn step(table: &[u8], bytes: &[u8], state: &mut [u64; STATE_NUMBERS]) -> Verdict
     ensures { λ r. ⌜ Answered r (now (state .exit)) (stepAnswer (now (table .entry)) (now (bytes .entry)) (now (state .entry))) (now (state .entry)) ⌝ }
 {

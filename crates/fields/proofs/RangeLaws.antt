@@ -85,6 +85,12 @@ module _ (test : ℕ → Bool) where
   unfolding allBelow
   all-more n h k = rw (add-one, h, k)
 
+-- tests that agree below n
+pub all-same : (one other : ℕ → Bool) (n : ℕ) → ((k : ℕ) → k < n → one k ≡ other k) → allBelow one n ≡ allBelow other n
+unfolding allBelow
+all-same one other zero h = refl
+all-same one other (suc n) h = rw (all-same one other n (λ k l. h k (omega arith)), h n (omega arith))
+
 -- a test that the code worked out and found kept, or broken
 pub kept : {fit test : Bool} → fit ≡ test → not fit ≡ false → test ≡ true
 kept {fit} e h = sym e ∙ not-false fit h

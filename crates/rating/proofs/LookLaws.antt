@@ -95,7 +95,7 @@ module _ (h : ℕ) (curve : Curve) (i : ℕ) (used : i < curve .count) where
   found-in-use reached below answer pieces =
       rw (found h (piecesOf curve) i reached (rw in-use below), in-use, ← answer, ← pieces)
 
--- an accepted curve, and a stage that rule 13 accepts
+-- an accepted curve, and a stage that rule 13 or 18 accepts
 module _ (h : ℕ) (curve : Curve) (stage : h ≤ 30000) (fits : CurveFits curve) where
   -- a piece whose top the stage has reached is not the last
   pub one-more : (i : ℕ) → i < curve .count → getD (curve .pieces) i noPiece .top .0 ≤ h → i + 1 < curve .count

@@ -23,7 +23,7 @@ use sizes::STEP_SPACE;
 use table::Counts;
 
 // The rules of a step before 16 on an accepted table with so many basins and dams and the bytes of a record, from a state that rule 8
-// accepts: 9 to 14 and 17; and what the gauges observed, two numbers a gauge.
+// accepts: 9 to 14, 17 and 18; and what the gauges observed, two numbers a gauge.
 pub fn judge_step(
     table: &[u8],
     basins: usize,
@@ -149,7 +149,7 @@ fn step_large(
 }
 
 // A step on an accepted table, its counts, weights of its elements (or none) and the bytes of a record, from a state that rule 8 accepts:
-// rules 9 to 14, 16 and 17.
+// rules 9 to 14 and 16 to 18.
 pub fn step_from(
     table: &[u8],
     counts: Counts,

@@ -48,7 +48,7 @@ module _ (table bytes : List ℕ) (s : State) where
   state-refused out h = lent-refused out _ StateRange (rw h)
 
   module _ {v : Verdict} {observed : List ℕ} (judged : StepJudged t bytes s v observed) (out : List ℕ) where
-    -- 9 to 14 and 17
+    -- 9 to 14, 17 and 18
     pub refused-before : {k : Refusal} → v ≡ Refused k → TrialHeld (of-forecast.Refused k) out table bytes s out
     refused-before {k} e = lent-refused out _ k (step-refused t bytes s _ (judged-refused t bytes s judged e))
 

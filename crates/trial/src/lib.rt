@@ -88,7 +88,7 @@ fn trial_large(
     trial_in(table, counts, bytes, state, &mut observed, &mut space, out)
 }
 
-// A trial on an accepted table: rules 8 to 17.
+// A trial on an accepted table: rules 8 to 18.
 fn trial_counted(
     table: &[u8],
     counts: Counts,
@@ -108,7 +108,7 @@ fn trial_counted(
     trial_large(table, counts, bytes, state, out)
 }
 
-// A trial on the bytes of a table and of a record: rules 1 to 17, in the step's order, 15 before 16.
+// A trial on the bytes of a table and of a record: rules 1 to 18, in the step's order, 15 before 16.
 pub fn trial(
     table: &[u8],
     bytes: &[u8],
