@@ -43,10 +43,12 @@ enum {
     RIVER_REFUSED_STATE_RANGE = 8,      /* the state has another N, a step count above 10,000, a figure above C or a rain above 3,000 */
     RIVER_REFUSED_STEP_LIMIT = 9,       /* the state's step count is 10,000 already */
     RIVER_REFUSED_RECORD_LENGTH = 10,   /* the record's bytes, its length field or both do not fit the table */
-    RIVER_REFUSED_RECORD_VERSION = 11,  /* the record's version is not 1 */
+    RIVER_REFUSED_RECORD_VERSION = 11,  /* the record's version is neither 1 nor 2 */
     RIVER_REFUSED_RAIN_RANGE = 12,      /* a rain is above 3,000 */
     RIVER_REFUSED_RELEASE_RANGE = 17,   /* a release is above C; judged after 12 and before 13 */
-    RIVER_REFUSED_STAGE_RANGE = 13,     /* a stage is above 30,000 and not 65535, which is a gap */
+    RIVER_REFUSED_STAGE_RANGE = 13,     /* a stage of version 1 is above 30,000 and not 65535, which is a gap */
+    RIVER_REFUSED_FLOAT_RANGE = 18,     /* a float of version 2 is infinite, not a number (but for the gap's pattern), below zero as sent
+                                           or above 30,000 mm once rounded; judged after 13 and before 14 */
     RIVER_REFUSED_READING_RANGE = 14,   /* a stage lies below its curve, or the curve gives more than C */
     RIVER_REFUSED_ANSWER_SPACE = 15,    /* fewer numbers are lent than the forecast or the trial has */
     RIVER_REFUSED_ABOVE_CEILING = 16    /* some figure of this call, or a number on the way to it, would pass C */
@@ -80,8 +82,9 @@ _Static_assert(sizeof(river_state) == 8 * (2 + 7 * RIVER_MOST_PLACES), "a state 
 typedef char river_state_is_450_numbers[sizeof(river_state) == 8 * (2 + 7 * RIVER_MOST_PLACES) ? 1 : -1];
 #endif
 
-/* What a table asks the host to lend: its counts, the bytes of a step record, the numbers of a forecast, and T, the minutes of a step;
- * all 0 but the refusal where the table is refused. */
+/* What a table asks the host to lend: its counts, the bytes of a step record of version 1, the numbers of a forecast, and T, the minutes of a
+ * step; all 0 but the refusal where the table is refused. A record of version 2, which has the bits of a 32-bit float in metres for each
+ * gauge where version 1 has a stage in millimetres, has record_bytes + 2 * gauges bytes; records of both versions may follow one another. */
 typedef struct {
     uint64_t refusal;
     size_t elements, leads, gauges, basins, dams, record_bytes, forecast_numbers;
@@ -102,6 +105,12 @@ typedef struct {
     size_t pieces;
 } river_rating;
 
+/* A discharge and its margin in m3/s, for a display; both 0 where the call is refused. */
+typedef struct {
+    uint64_t refusal;
+    double discharge, margin;
+} river_shown;
+
 /* The version of the library that is linked: RIVER_VERSION of its own header. */
 uint64_t river_version(void);
 
@@ -111,7 +120,7 @@ river_plan river_check(const uint8_t *table, size_t table_bytes);
 /* Starts a river, whatever its state held: rules 1 to 7. */
 uint64_t river_start(const uint8_t *table, size_t table_bytes, river_state *state);
 
-/* A step of the state on a record: rules 1 to 14, 16 and 17. */
+/* A step of the state on a record: rules 1 to 14 and 16 to 18. */
 uint64_t river_step(const uint8_t *table, size_t table_bytes, const uint8_t *record, size_t record_bytes, river_state *state);
 
 /* A forecast from the state, which stays: rules 1 to 8, 15 and 16. By element, then lead 0 (the state) to L, it writes discharge, margin,
@@ -120,7 +129,7 @@ uint64_t river_step(const uint8_t *table, size_t table_bytes, const uint8_t *rec
 river_written river_forecast(const uint8_t *table, size_t table_bytes, const river_state *state, uint64_t *numbers, size_t numbers_lent);
 
 /* A trial of a step on a record: what the step would leave in the state, which stays. It refuses as the step would, with 15 (fewer than
- * 4 N numbers lent) after 14 and before 16: rules 1 to 12, 17, 13, 14, 15, 16. By element it writes discharge, margin, variance and
+ * 4 N numbers lent) after 14 and before 16: rules 1 to 12, 17, 13, 18, 14, 15, 16. By element it writes discharge, margin, variance and
  * variance margin, as a forecast of lead 0 alone: those of element e (from 1) begin at numbers[4 * (e - 1)]. What lies after the last of
  * them stays. */
 river_written river_trial(const uint8_t *table, size_t table_bytes, const uint8_t *record, size_t record_bytes, const river_state *state,
@@ -129,6 +138,11 @@ river_written river_trial(const uint8_t *table, size_t table_bytes, const uint8_
 /* Looks along the curve of a gauge (from 1, in the table's order) with a stage in millimetres, as a step does with a reading: rules 1 to 7,
  * 13 and 14. */
 river_rating river_rate(const uint8_t *table, size_t table_bytes, size_t gauge, uint64_t stage);
+
+/* A discharge and its margin, as a forecast or a trial hands them out, as floats in m3/s: each count divided once by 1,000,000, so that it
+ * is the double nearest to the figure. Rule 16: a count above C, which no call hands out. The display's rounding is not part of the margin:
+ * compare counts, not floats. */
+river_shown river_show(uint64_t discharge, uint64_t margin);
 
 /* The figures of an element (from 1) at a lead (from 0) in the numbers of a forecast; of a trial with leads 0 and lead 0. */
 static inline river_figures river_figures_at(const uint64_t *numbers, size_t leads, size_t element, size_t lead)

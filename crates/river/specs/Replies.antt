@@ -2,6 +2,8 @@
 use Prim.Native.Nat.{ℕ, _+_, _*_}
 use mathlib.Core.List.{List}
 use mathlib.Core.Path.{_≡_}
+use lib.Ieee.{Float, binary64, ofInt}
+use lib.IntN.{pos}
 use Rattle.refusal.specs.Answers.{Answer, accepted, refused}
 use Rattle.units.specs.declared.Discharge.{Discharge}
 use Rattle.rating.specs.Looks.{Look}
@@ -13,7 +15,9 @@ use Rattle.state.specs.Answers.{stateAfter}
 use Rattle.network.specs.Lent.{countWritten, lentAfter}
 use Rattle.river.specs.declared.TablePlan.{TablePlan}
 use Rattle.river.specs.declared.Written.{Written}
+use Rattle.display.specs.declared.Shown.{Shown}
 use Rattle.river.specs.declared.Rating.{Rating}
+use Rattle.river.specs.declared.Display.{Display}
 
 -- the version of the interface
 abbrev pub version : ℕ
@@ -24,7 +28,7 @@ unfoldable pub refusalOf : {A : Type 0} → Answer A → ℕ
 refusalOf (accepted a) = 0
 refusalOf (refused n) = n
 
--- what a table asks the host to lend: "1 + 2 × basins + 2 × M" bytes, and 4 a dam (M-100), after the two of a record's length, and
+-- what a table asks the host to lend: of a record of version 1 "1 + 2 × basins + 2 × M" bytes, and 4 a dam (M-100), after the two of its length, and
 -- "4 × N × (L + 1)" numbers of a forecast; and T
 unfoldable pub planOf : TableValues → TablePlan
 planOf t =
@@ -81,3 +85,11 @@ dischargeIn (refused n) = 0
 unfoldable pub ratingReply : Look → Rating
 ratingReply look =
     record { refusal = refusalOf (look .answer); discharge = dischargeIn (look .answer); pieces = look .pieces }
+
+-- M-104: a discharge and its margin for the display; both 0 where a count is refused
+abbrev pub noFloat : Float
+noFloat = ofInt binary64 (pos 0)
+
+unfoldable pub displayReply : Answer Shown → Display
+displayReply (accepted s) = record { refusal = 0; discharge = s .discharge; margin = s .margin }
+displayReply (refused n) = record { refusal = n; discharge = noFloat; margin = noFloat }

@@ -10,8 +10,10 @@ ghost use Rattle.network.specs.Lent.{countAnswer};
 ghost use Rattle.entries.specs.Entries.{startAnswer, stepAnswer, forecastAnswer};
 ghost use Rattle.entries.specs.Trials.{trialAnswer};
 ghost use Rattle.gauge_look.specs.GaugeLooks.{ratingAnswer};
+ghost use Rattle.display.specs.Display.{showAnswer, shownAnswer};
 ghost use Rattle.river.specs.Held.{CountsSmall, PlanAsked};
-ghost use Rattle.river.specs.Replies.{version, refusalOf, noPlan, planReply, writtenReply, ratingReply, StateReplied, ForecastReplied};
+ghost use Rattle.river.specs.Replies.{version, refusalOf, noPlan, planReply, writtenReply, ratingReply, displayReply, StateReplied, ForecastReplied};
+use display::ShownAnswer;
 use network::ForecastAnswer;
 use rating::RatingAnswer;
 use refusal::Verdict;
@@ -46,6 +48,14 @@ pub struct Rating {
     pub refusal: u64,
     pub discharge: u64,
     pub pieces: usize,
+}
+
+// 0, or the number for no, and a discharge and its margin in m³/s.
+#[repr(C)]
+pub struct Display {
+    pub refusal: u64,
+    pub discharge: f64,
+    pub margin: f64,
 }
 
 fn refusal_of(verdict: Verdict) -> u64
@@ -87,6 +97,26 @@ fn rating_reply(answer: RatingAnswer) -> Rating
                 refusal: number,
                 discharge: 0,
                 pieces,
+            }
+        }
+    }
+}
+
+fn display_reply(answer: ShownAnswer) -> Display
+    ensures { λ r. ⌜ r ≡ displayReply (shownAnswer answer) ⌝ }
+{
+    match answer {
+        ShownAnswer::Accepted(shown) => Display {
+            refusal: 0,
+            discharge: shown.discharge,
+            margin: shown.margin,
+        },
+        ShownAnswer::Refused(refusal) => {
+            let number = refusal.code();
+            Display {
+                refusal: number,
+                discharge: 0.0,
+                margin: 0.0,
             }
         }
     }
@@ -204,4 +234,13 @@ pub extern "C" fn river_rate(table: &[u8], gauge: usize, stage: u64) -> Rating
 {
     let answer = gauge_look::rate(table, gauge, stage);
     rating_reply(answer)
+}
+
+// A discharge and its margin, in grains, as floats in m³/s for a display.
+#[no_mangle]
+pub extern "C" fn river_show(discharge: u64, margin: u64) -> Display
+    ensures { λ r. ⌜ r ≡ displayReply (showAnswer discharge margin) ⌝ }
+{
+    let answer = display::show(discharge, margin);
+    display_reply(answer)
 }
