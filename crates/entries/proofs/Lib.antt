@@ -2,3 +2,4 @@ pub mod NextLaws
 pub mod ForecastLaws
 pub mod StepRuleLaws
 pub mod TrialLaws
+pub mod SameReadings

@@ -1,5 +1,5 @@
 -- Document 01, Numbers for no: "Starting uses 1 to 7; a step 1 to 14 and 16; a forecast 1 to 8, 15 and 16."; document 02, M-100: a step 17
--- too, "between 12 and 13".
+-- too, "between 12 and 13", and M-104: 18, "between 13 and 14".
 use Prim.Native.Nat.{ℕ}
 use mathlib.Core.List.{List}
 use Rattle.refusal.specs.Answers.{Answer, accepted, rule}
@@ -20,7 +20,7 @@ use Rattle.network.specs.Answer.{leadsAnswer}
 unfoldable pub startAnswer : List ℕ → State → Answer State
 startAnswer table s = tableRules table (accepted (started (tableIn table) s))
 
--- a step's rules from 8 to 14, with 17, in checking order; where all are kept, what follows them decides
+-- a step's rules from 8 to 14, with 17 and 18, in checking order; where all are kept, what follows them decides
 unfoldable pub stepRules : {A : Type 0} → TableValues → List ℕ → State → Answer A → Answer A
 stepRules t bytes s rest = rule 8 (stateFits t s) (rule 9 (stepsLeft s) (recordRules t bytes rest))
 

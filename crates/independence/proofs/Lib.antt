@@ -1,4 +1,3 @@
-pub mod InputLaws
 pub mod WalkLaws
 pub mod ShownLaws
 pub mod Theorem

@@ -10,11 +10,11 @@ use Rattle.method.specs.declared.Figures.{Figures}
 use Rattle.table.specs.Tables.{TableValues}
 use Rattle.table.specs.InUse.{tableIn}
 use Rattle.record.specs.Records.{inputAt}
+use Rattle.record.proofs.SameLaws.{same-rain, same-release, same-observation}
 use Rattle.state.specs.States.{State, figuresOf}
 use Rattle.network.specs.Step.{stepOwn, observedIn, stepFigures}
 use Rattle.answer_space.specs.Places.{figuresAt}
 use Rattle.independence.specs.Independence.{AcceptedTrial, DifferAt, Reached, here, Agree, AgreeApart}
-use Rattle.independence.proofs.InputLaws.{same-rain, same-release, same-observation}
 use Rattle.independence.proofs.WalkLaws.{same-figures}
 use Rattle.independence.proofs.ShownLaws.{trial-shows}
 
@@ -29,8 +29,11 @@ step-same :
 unfolding stepFigures stepOwn observedIn inputAt
 step-same t s g one other d =
     same-figures t (t .gauge g .element) (stepOwn t (inputAt t one)) (stepOwn t (inputAt t other)) (observedIn (inputAt t one))
-    (observedIn (inputAt t other)) (figuresOf s) (λ i l. rw (same-rain t g one other d i l, same-release t g one other d i l))
-    (λ i l r. same-observation t g one other d i (λ e. r (subst (Reached t (t .gauge g .element)) e here)) (t .gauges) (omega arith))
+    (observedIn (inputAt t other)) (figuresOf s) (λ i l. rw (same-rain t one other i (d .rains) l, same-release t one other i (d .releases) l))
+    (λ i l r.
+    same-observation t one other i
+    (λ k m e. d .readings k m (λ h. r (subst (Reached t (t .gauge g .element)) (ap (λ (n : ℕ). t .gauge n .element) (sym h) ∙ e) here)))
+    (t .gauges) (omega arith))
 
 -- equal figures are equal numbers
 agreeing : {one other : List ℕ} (i : ℕ) → figuresAt one i ≡ figuresAt other i → Agree one other i
