@@ -14,7 +14,7 @@ from calculator.fractions_run import EnclosedNumbers, ExactNumbers, FractionsRun
 from calculator.program import cut_records, cut_table
 
 FIGURE_LINE = re.compile(rb"(0|[1-9][0-9]*)(?: (?:0|[1-9][0-9]*)){6}")
-REFUSAL_LINE = re.compile(rb"(0|[1-9][0-9]*) refused (1[0-7]|[1-9])")
+REFUSAL_LINE = re.compile(rb"(0|[1-9][0-9]*) refused (1[0-8]|[1-9])")
 EXACT_WORK = 40  # elements x (steps + leads) up to which the run is in fractions; above, it is enclosed between bounds
 
 

@@ -3,6 +3,8 @@
 A table is a dict: T, L, elements, gauges; an element a dict of ELEMENT_FIELDS, a gauge a dict of element, R, pieces (up to five of
 (top, a, b)) and, where it shall differ from the count of pieces, used.
 """
+from struct import pack
+
 ELEMENT_FIELDS = (("kind", 1), ("down", 1), ("lag", 2), ("area", 4), ("f", 2), ("first_discharge", 4), ("first_variance", 4), ("W", 4),
                   ("G", 4))
 
@@ -31,8 +33,15 @@ def table_bytes(table):
     return big_endian(table.get("length", 6 + len(body)), 4) + head + body
 
 
-def record_bytes(rains, stages, releases=(), version=1, length=None):
-    """The releases stand between rains and stages."""
-    fields = [(rain, 2) for rain in rains] + [(release, 4) for release in releases] + [(stage, 2) for stage in stages]
+def float_bits(metres):
+    """The bits of the 32-bit float nearest to so many metres."""
+    return int.from_bytes(pack(">f", metres), "big")
+
+
+def record_bytes(rains, stages, releases=(), version=1, length=None, size=None):
+    """The releases stand between rains and stages; a stage has 4 bytes in version 2, where it is the bits of a float, and 2 in every other,
+    or `size`."""
+    size = size or (4 if version == 2 else 2)
+    fields = [(rain, 2) for rain in rains] + [(release, 4) for release in releases] + [(stage, size) for stage in stages]
     body = big_endian(version, 1) + b"".join(big_endian(value, size) for value, size in fields)
     return big_endian(len(body) if length is None else length, 2) + body

@@ -1,5 +1,5 @@
-"""Document 01, "The run in fractions", with M-100's dams, M-102's trials and M-103's unrounded half sums: the same steps with exact F, no
-rounding, no margins and no ceiling.
+"""Document 01, "The run in fractions", with M-100's dams, M-102's trials, M-103's unrounded half sums and M-104's floats, of which it takes
+the whole millimetres: the same steps with exact F, no rounding, no margins and no ceiling.
 
 It is fed an accepted table, the records of accepted steps and nothing else, decodes them by itself and keeps its own state, so that it
 shares no line with whole_numbers.py.
@@ -10,8 +10,8 @@ have few elements; for longer ones `Enclosure` below bounds the same run from bo
 """
 from fractions import Fraction
 from functools import lru_cache
-from math import factorial
-from struct import iter_unpack, unpack, unpack_from
+from math import factorial, floor
+from struct import iter_unpack, pack, unpack, unpack_from
 
 
 @lru_cache(maxsize=4096)
@@ -19,6 +19,13 @@ def exact_weight(step_minutes, lag):
     """F: the sum, for m from 0 to 12, of -T / lag to the power m, over m factorial."""
     ratio = Fraction(-step_minutes, lag)
     return sum((ratio ** m / factorial(m) for m in range(13)), Fraction(0))
+
+
+def stage_of(version, sent):
+    """A gauge's stage in millimetres, None for a gap. Python holds every 32-bit float as it is, and its fraction is exact."""
+    if sent == (0x7FC0_0000 if version == 2 else 65_535):
+        return None
+    return floor(Fraction(*unpack(">f", pack(">I", sent))) * 1_000 + Fraction(1, 2)) if version == 2 else sent
 
 
 class ExactNumbers:
@@ -140,13 +147,14 @@ class FractionsRun:
 
     def step_input(self, record):
         """By place: the rains, the releases, and z and R of the readings."""
-        counts = len(self.basins), len(self.dams), len(self.gauges)
-        fields = unpack(">{}H{}I{}H".format(*counts), record[3:])
+        counts, version = (len(self.basins), len(self.dams), len(self.gauges)), record[2]
+        fields = unpack(">{}H{}I{}{}".format(*counts, "I" if version == 2 else "H"), record[3:])
         rains, rest = dict(zip(self.basins, fields)), fields[len(self.basins):]
         releases = {place: self.numbers.of(release) for place, release in zip(self.dams, rest)}
         readings = {}
-        for (element, noise, pieces), stage in zip(self.gauges, rest[len(self.dams):]):
-            if stage != 65_535:
+        for (element, noise, pieces), sent in zip(self.gauges, rest[len(self.dams):]):
+            stage = stage_of(version, sent)
+            if stage is not None:
                 _, a, b = next(piece for piece in pieces if stage < piece[0])
                 readings[element - 1] = Fraction(a * (stage + b) ** 2, 1_000), noise
         return rains, releases, readings

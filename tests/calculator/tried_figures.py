@@ -1,4 +1,5 @@
 """Document 01, "Tried figures": all of them asked of whole_numbers.py. Those that a run can show are inputs of the program too."""
+from . import floats
 from .encode import record_bytes, table_bytes
 from .program import run
 from .whole_numbers import Figures, Piece, Refused, RULES, SCALE, State, decode_table, series_weight
@@ -21,6 +22,7 @@ def one_reach(pieces, down=0):
 
 def check():
     """Raises AssertionError where a figure does not come out."""
+    floats.check()
     assert series_weight(60, 60) == 367_879_441 and series_weight(1, 60_000) == 999_983_334
     assert RULES.blend(3, 0, 4, 0, 500_000_000, 0) == (3, 3)
     assert SCALE * 300 // (300 + 100) == 750_000_000
