@@ -1,5 +1,6 @@
 #!/usr/bin/env python3
-"""Tries the built program on generated inputs and judges every output by judge.py.
+"""Tries the built program on generated inputs and judges every output by judge.py; where an input has a twin, the same readings in records
+of version 1, the program must print the same for both, whatever the calculator says.
 
     python3 tests/generated.py [--long] [--seed S] [--only K] [program]
 
@@ -16,7 +17,7 @@ from pathlib import Path
 
 from calculator import program, tried_figures
 from inputs import inputs, random_for
-from judge import judge, judged
+from judge import judge, judged, version_complaint
 
 ROOT = Path(__file__).resolve().parent.parent
 TIME_LIMIT = 120  # seconds for one input
@@ -81,6 +82,8 @@ def main():
         try:
             output = under_test(data, given.pieces)
             found = judge(data, output, expected, given.fractions)
+            if given.twin:
+                found |= version_complaint(output, under_test(given.twin(random_for(options.seed, number))))
         except Crashed as crash:
             output, found = b"", {"crash": str(crash)}
         if found:

@@ -7,11 +7,11 @@ from pathlib import Path
 from random import Random
 from typing import Callable
 
-from calculator.encode import big_endian, record_bytes, table_bytes
+from calculator.encode import big_endian, float_bits, record_bytes, table_bytes
 from calculator.tried_figures import EXAMPLE_INPUT as EXAMPLE
 
 YUBETSU = Path(__file__).resolve().parent.parent / "examples/yubetsu-2001/cabinet.bin"
-CEILING, GAP = 4_000_000_000, 65_535
+CEILING, GAP, FLOAT_GAP = 4_000_000_000, 65_535, 0x7FC0_0000
 SHAPES = ("chain", "star", "forest", "tree", "lone")
 
 
@@ -21,6 +21,7 @@ class Input:
     build: Callable  # of a Random, gives the bytes
     fractions: bool = True  # whether the run in fractions judges it
     pieces: int = 0  # above 0: written to the program in pieces of so many bytes
+    twin: Callable = None  # as build, with the same readings in records of version 1; the outputs must be equal
 
 
 # ---- Rivers --------------------------------------------------------------------------------------------------------------------------
@@ -66,12 +67,32 @@ def dam_table(**changes):
 DAM_RECORDS = [((100, 0), (1_500,), (3_000_000, 0)), ((35, 3_000), (GAP,), (0, CEILING)), ((0, 10), (1_499,), (70_000_000, 12))]
 
 
+def bits_near(metres, less=1, more=1):
+    """The bits of the float nearest to so many metres, with as many floats below it and above it."""
+    nearest = float_bits(metres)
+    return list(range(nearest - less, nearest + more + 1))
+
+
+def stage_bits(stage):
+    """A stage of version 1 as version 2 has it."""
+    return FLOAT_GAP if stage == GAP else float_bits(stage / 1_000)
+
+
+# Of the river with dams and a second gauge, in version 2.
+FLOAT_RECORDS = [((100, 0), (stage_bits(1_500), FLOAT_GAP), (3_000_000, 0), 2), ((35, 3_000), (FLOAT_GAP, float_bits(0.6999)), (0, CEILING), 2),
+                 ((0, 10), (float_bits(1.49949), stage_bits(2_000)), (70_000_000, 12), 2)]
+
+
 def small_river():
     return small_table(), list(SMALL_RECORDS)
 
 
 def dam_river():
     return dam_table(), list(DAM_RECORDS)
+
+
+def float_river():
+    return dam_table(gauges=[gauge(3, R=300), gauge(4)]), list(FLOAT_RECORDS)
 
 
 def whole_input(table, records):
@@ -257,10 +278,10 @@ def with_head(**changes):
 
 
 def with_record(which, **changes):
-    """`rains`, `stages`, `releases`, `version` or `length` of a record changed."""
+    """What record_bytes makes a record of changed."""
     def edit(table, records):
-        old = (*records[which], *((), 1, None)[len(records[which]) - 2:])
-        names = ("rains", "stages", "releases", "version", "length")
+        old = (*records[which], *((), 1, None, None)[len(records[which]) - 2:])
+        names = ("rains", "stages", "releases", "version", "length", "size")
         records[which] = tuple(changes.get(name, value) for name, value in zip(names, old))
     return edit
 
@@ -318,7 +339,7 @@ def rule_edits():
     for which in (0, 2):
         add(10, *(with_record(which, length=length) for length in (0, 1, 2, 7, 8, 9, 10, 11, 13, 65_535)))
         add(10, with_record(which, rains=(1,)), with_record(which, rains=(1, 2, 3)), with_record(which, stages=()))
-        add(11, *(with_record(which, version=version) for version in (0, 1, 2, 255)))
+        add(11, *(with_record(which, version=version) for version in (0, 1, 3, 255)))
         for rain in (2_999, 3_000, 3_001, GAP):
             add(12, with_record(which, rains=(rain, 0)), with_record(which, rains=(0, rain)))
         for stage in (29_999, 30_000, 30_001, 65_534, GAP):
@@ -347,13 +368,41 @@ def dam_edits():
     add(7, *(with_gauge(0, element=element) for element in (1, 2, 3, 5, 6)))
     add(10, *(with_record(0, length=length) for length in (11, 13, 14, 16, 17, 19)), with_record(0, releases=(1,)),
         with_record(0, releases=(1, 2, 3)), with_record(0, rains=(1,)), with_record(0, rains=(1, 2, 3, 4), releases=(1,)))
-    add(11, with_record(0, version=2))
+    add(11, with_record(0, version=3))
     add(12, *(with_record(0, rains=rains) for rains in ((3_001, 0), (0, 3_001))))
     for which in (0, 2):
         for release in (CEILING, CEILING + 1, 2 ** 32 - 1):
             add(17, with_record(which, releases=(release, 0)), with_record(which, releases=(0, release)))
     add(13, *(with_record(0, stages=(stage,)) for stage in (30_001, 65_534)))
     add(14, *(with_record(0, stages=(stage,)) for stage in (499, 14_643)))
+    return edits
+
+
+def float_edits():
+    """The same of the river in floats: what M-104 brings."""
+    edits = []
+
+    def add(rule, *more):
+        edits.extend((rule, edit) for edit in more)
+
+    for which in (0, 2):
+        add(10, *(with_record(which, length=length) for length in (0, 1, 2, 16, 17, 19, 20, 22, 65_535)))
+        add(10, *(with_record(which, version=version, size=4) for version in (0, 1, 3, 255)))
+        add(10, with_record(which, size=2), with_record(which, size=3), with_record(which, stages=(0,)), with_record(which, stages=(0, 0, 0)))
+        add(11, *(with_record(which, version=version, stages=(1_500, GAP)) for version in (0, 1, 3, 4, 255)))
+    add(10, with_record(0, releases=(5,)), with_record(0, rains=(5, 6, 7, 8)), with_record(0, version=1, size=4, length=17))
+    # What stands after the rains shifted by a release or two rains: the length is right.
+    add(10, with_record(0, releases=(5,), stages=(stage_bits(900), stage_bits(1_000), stage_bits(1_100))),
+        with_record(0, releases=(5, 6, 7), stages=(stage_bits(900),)), with_record(0, rains=(5, 6, 7, 8), stages=(stage_bits(900),)))
+    add(12, *(with_record(0, rains=rains) for rains in ((3_000, 3_000), (3_001, 0), (0, 3_001))))
+    add(17, *(with_record(0, releases=(0, release)) for release in (CEILING, CEILING + 1)))
+    add(13, *(with_record(0, stages=(GAP, stage), version=1) for stage in (30_000, 30_001, 65_534)))
+    metres = [-1e-4, -1e-9, 2.0, 29.9994, 30.0, 30.0004, 30.0006, 30.001, 31.9, 32.0, 65.535, 1e9]
+    for bits in (*map(float_bits, metres), *bits_near(30.0005), *SPECIAL.values()):
+        add(18, with_record(0, stages=(bits, FLOAT_GAP)), with_record(2, stages=(stage_bits(1_500), bits)))
+    for metres in (0.499, 0.4995, 0.5, 14.642, 14.6425, 14.643):
+        add(14, *(with_record(0, stages=(bits, FLOAT_GAP)) for bits in bits_near(metres)),
+            with_record(2, stages=(FLOAT_GAP, float_bits(metres))))
     return edits
 
 
@@ -366,8 +415,9 @@ def edited(edits, river=small_river):
 
 def several_edits(random):
     """Two to four edits at once, of the table and the records or of the records alone: the first number in checking order that applies."""
-    lowest, river = random.choice((1, 5, 10, 10)), random.choice((small_river, small_river, dam_river))
-    edits = [(rule, edit) for rule, edit in (dam_edits() if river is dam_river else rule_edits()) if rule >= lowest]
+    lowest, river = random.choice((1, 5, 10, 10)), random.choice((small_river, small_river, dam_river, float_river))
+    edits = {small_river: rule_edits, dam_river: dam_edits, float_river: float_edits}[river]()
+    edits = [(rule, edit) for rule, edit in edits if rule >= lowest]
     rules = random.sample(sorted({rule for rule, _ in edits}), random.choice((2, 2, 3, 4)))
     return edited([random.choice([edit for about, edit in edits if about == rule]) for rule in rules], river)
 
@@ -408,14 +458,35 @@ def release_orders():
     yield "12, 17, 13 and 16", edited([*over, with_record(1, rains=(3_000, 3_001), stages=(30_001,), **above)], dam_river)
 
 
+def float_orders():
+    """18 beside each of the others on a step: a name and the river, edited. 18 stands between 13 and 14."""
+    bad, deep, gap = float_bits(30.001), float_bits(0.4), FLOAT_GAP
+    over = [with_element(0, area=400_000), with_element(2, area=400_000)]  # rains of 3,000 bring 16
+    yield "10 and 18", edited([with_record(1, stages=(bad,))], float_river)
+    yield "10 by version 3 and 18", edited([with_record(1, stages=(bad, bad), version=3, size=4)], float_river)
+    yield "12 and 18", edited([with_record(1, rains=(0, 3_001), stages=(bad, bad))], float_river)
+    yield "17 and 18", edited([with_record(1, releases=(0, CEILING + 1), stages=(bad, gap))], float_river)
+    yield "12, 17, 18, 14 and 16", edited([*over, with_record(1, rains=(3_000, 3_001), stages=(bad, deep), releases=(0, CEILING + 1))],
+                                          float_river)
+    yield "18 in gauge 1, 14 in gauge 2", edited([with_record(1, stages=(bad, deep))], float_river)
+    yield "14 in gauge 1, 18 in gauge 2", edited([with_record(1, stages=(deep, bad))], float_river)
+    yield "14 in gauge 1, a negative float in gauge 2", edited([with_record(1, stages=(deep, float_bits(-1e-4)))], float_river)
+    yield "14 in gauge 1, a NaN in gauge 2", edited([with_record(1, stages=(deep, 0xFFC0_0000))], float_river)
+    yield "14 in gauge 1, a gap in gauge 2", edited([with_record(1, stages=(deep, gap))], float_river)
+    yield "18 and 16", edited([*over, with_record(1, rains=(3_000, 3_000), stages=(gap, bad))], float_river)
+    yield "18 and then 13 of version 1", edited([with_record(0, stages=(bad, gap)), with_record(1, stages=(30_001, 400), version=1)],
+                                                float_river)
+
+
 def last_places():
-    """Rules 5 to 7, 12 to 14 and 17 at the last of 64 elements, 16 gauges, 63 rains, 64 releases and 16 stages: a
+    """Rules 5 to 7, 12 to 14, 17 and 18 at the last of 64 elements, 16 gauges, 63 rains, 64 releases and 16 stages: a
     name, and twice a table with a record, of which the first passes and the second does not."""
-    def river(element=(), above=(), last_gauge=(), rain=0, stage=GAP):
+    def river(element=(), above=(), last_gauge=(), rain=0, stage=GAP, bits=None):
         elements = [basin(down=64, area=1) for _ in range(62)] + [basin(down=64, area=1) | dict(above)] + [reach() | dict(element)]
         gauges = [gauge(number, pieces=[(30_001, 1, -500)]) for number in range(49, 65)]
         gauges[-1] |= dict(last_gauge)
-        return dict(T=60, L=1, elements=elements, gauges=gauges), ((0,) * 62 + (rain,), (GAP,) * 15 + (stage,))
+        readings = ((GAP,) * 15 + (stage,),) if bits is None else ((FLOAT_GAP,) * 15 + (bits,), (), 2)
+        return dict(T=60, L=1, elements=elements, gauges=gauges), ((0,) * 62 + (rain,), *readings)
 
     def dams(release=0, **last):
         elements = [dam(down=64) for _ in range(63)] + [dam(**last)]
@@ -430,6 +501,8 @@ def last_places():
     yield "12, last rain 3,000 and 3,001", river(rain=3_000), river(rain=3_001)
     yield "13, last stage 30,000 and 30,001", river(stage=30_000), river(stage=30_001)
     yield "14, last stage 500 and 499", river(stage=500), river(stage=499)
+    yield "18, last float 41F00106 and 41F00107", river(bits=0x41F0_0106), river(bits=0x41F0_0107)
+    yield "14, last float 3EFFBE77 and 3EFFBE76", river(bits=0x3EFF_BE77), river(bits=0x3EFF_BE76)
     yield "5, lag 0 and 1 of dam 64", dams(), dams(lag=1)
     yield "17, last release C and C + 1", dams(CEILING), dams(CEILING + 1)
 
@@ -684,6 +757,142 @@ def curve_rivers():
     yield "14 on all pieces but one", river_of_curves(curves), records
 
 
+# ---- Records of version 2: floats ------------------------------------------------------------------------------------------------------
+
+# Signs, the ends of subnormal, normal and finite floats, and what is not a number.
+SPECIAL = {"0": 0x0000_0000, "-0": 0x8000_0000, "smallest subnormal": 0x0000_0001, "smallest subnormal below 0": 0x8000_0001,
+           "largest subnormal": 0x007F_FFFF, "smallest normal": 0x0080_0000, "largest": 0x7F7F_FFFF, "largest below 0": 0xFF7F_FFFF,
+           "infinity": 0x7F80_0000, "-infinity": 0xFF80_0000, "gap": FLOAT_GAP, "gap with a sign": 0xFFC0_0000, "gap + 1": 0x7FC0_0001,
+           "gap - 1": 0x7FBF_FFFF, "least signalling NaN": 0x7F80_0001, "signalling NaN": 0x7FA0_0000, "signalling NaN with a sign": 0xFF80_0001,
+           "last NaN": 0x7FFF_FFFF, "all ones": 0xFFFF_FFFF, "-0.0001": float_bits(-1e-4), "-0.0005": float_bits(-5e-4),
+           "-0.0006": float_bits(-6e-4), "-1": float_bits(-1.0), "-30": float_bits(-30.0)}
+# Halves of a millimetre that a float has exactly: the odd multiples of 62.5 mm, with the floats around them.
+EXACT_HALVES = [bits for sixteenths in range(1, 480, 2) for bits in bits_near(sixteenths / 16)]
+NEAR_30_METRES = [*bits_near(29.9995, 3, 3), float_bits(29.9999), *bits_near(30.0, 2, 2), float_bits(30.0004), *bits_near(30.0005, 12, 12),
+                  float_bits(30.0006), *bits_near(30.001), float_bits(30.4), *bits_near(31.9), *bits_near(32.0), float_bits(65.535)]
+# Read from the last byte on, or with the halves changed over, these are other floats of less than 30 m, a gap, or refused.
+BYTE_ORDERS = [0x3F80_0041, 0x4100_803F, 0x4040_4140, 0x4140_4040, 0x0000_C07F, 0x0000_803F, 0x0000_7FC0, 0x3F80_4000, 0x4000_3F80,
+               0x3E99_999A, 0x4120_0001]
+# The lower half is a stage that rule 13 refuses, or its gap; the floats are of 1 m to 29 m.
+HALVES_OF_THIRTEEN = [0x3F80_7531, 0x3F80_FFFE, 0x3F80_FFFF, 0x41E7_C000, 0x41E7_FFFF, 0x4000_8000]
+
+
+def near_halves(every=1):
+    """The floats nearest to k and a half millimetres, for k from 0 to 29,999 in these steps, and the floats around them."""
+    return [bits for k in range(0, 30_000, every) for bits in bits_near((2 * k + 1) / 2_000)]
+
+
+def float_table(count=1, **rest):
+    """Reaches apart with a gauge on each that is all but believed, z being 4 h²: every millimetre shows."""
+    return dict(T=60, L=1, elements=[reach(first_discharge=k, W=100_000_000) for k in range(count)],
+                gauges=[gauge(number, R=1, pieces=[(30_001, 4_000, 0)]) for number in range(1, count + 1)]) | rest
+
+
+def float_rows(bits, count=16):
+    """Records with these floats, so many in each; gaps after the last."""
+    padded = [*bits, *[FLOAT_GAP] * (-len(bits) % count)]
+    return [((), padded[at:at + count], (), 2) for at in range(0, len(padded), count)]
+
+
+def at_each_gauge(patterns, count=16):
+    """Each pattern at some gauge, from the first to the last, among others that are taken."""
+    good = [stage_bits(500 + 777 * k) for k in range(count)]
+    return [((), [*good[:k % count], bits, *good[k % count + 1:]], (), 2) for k, bits in enumerate(patterns)]
+
+
+def float_rivers():
+    """(name, table, records)."""
+    yield "exact halves", float_table(16), float_rows(EXACT_HALVES)
+    yield "near half a millimetre", float_table(16), float_rows(near_halves(37))
+    yield "near 30 m", float_table(), float_rows(NEAR_30_METRES, 1)
+    yield "special patterns", float_table(), float_rows([bits for pattern in SPECIAL.values() for bits in (pattern, stage_bits(1_000))], 1)
+    yield "special patterns at each gauge", float_table(16), at_each_gauge([*SPECIAL.values(), *[0xFFC0_0000] * 16])
+    yield "byte order", float_table(), float_rows(BYTE_ORDERS, 1)
+    yield "byte order at 16 gauges", float_table(16), at_each_gauge(BYTE_ORDERS * 2)
+    yield "halves of 13", float_table(16), float_rows(HALVES_OF_THIRTEEN * 8)
+    # Pairs of stages of version 1 that are no floats of version 2: 2e32 and less, not a number, below 0.
+    pairs = (30_000, 0), (0x42C8, 0), (30_000, 30_000), (20_000, GAP), (GAP, 0), (GAP, GAP)
+    yield "version 1 that 18 would refuse", float_table(2), [((), pair) for pair in pairs]
+    yield "figures", float_table(), float_rows([float_bits(metres) for metres in (0.0005, 0.0015, 1.2345, 29.9995, 30.0)], 1)
+    yield "gaps alone", dam_table(), [((90, 20), (FLOAT_GAP,), (k, CEILING - k), 2) for k in range(4)]
+    yield "with dams", *float_river()
+    elements = [dam(down=2), reach(down=3, W=9), reach(down=4, lag=90, W=5), dam(), basin(area=90, W=3, G=7)]
+    rows = (900, 1_000, 1_100), (GAP, 501, 2_000), (800, 700, GAP)
+    yield "after releases like floats", dict(T=60, L=2, elements=elements, gauges=[gauge(2), gauge(3, R=9), gauge(5)]), [
+        ((7,), list(map(stage_bits, row)), (float_bits(1.5), FLOAT_GAP), 2) for row in rows]
+    yield "versions in turn", small_table(), [record if k % 2 else in_floats(record) for k, record in enumerate(SMALL_RECORDS * 4)]
+    yield "no gauge", dict(T=60, L=1, elements=[basin()], gauges=[]), [((5,), (), (), version) for version in (1, 2, 3, 2, 1)]
+
+
+def in_floats(record, random=None):
+    """A record of version 1 in version 2; if there is a Random, by any float of the same millimetre."""
+    rains, stages, releases = (*record, ())[:3]
+    if random is None:
+        return rains, list(map(stage_bits, stages)), releases, 2
+    return rains, [some_bits(random, stage) for stage in stages], releases, 2
+
+
+def some_bits(random, stage):
+    """A float of this millimetre, a gap for a gap."""
+    if stage == GAP:
+        return FLOAT_GAP
+    if stage == 0:
+        return random.choice((0, 0x8000_0000, 1, 0x007F_FFFF, float_bits(random.uniform(0, 0.00049))))
+    return float_bits(random.uniform(stage - 0.49, stage + 0.49) / 1_000)
+
+
+def in_version(version, river):
+    """The build of a river that is given or drawn, all records in this version."""
+    def build(random):
+        table, records = river(random) if callable(river) else river
+        return whole_input(table, [in_floats(record, random) for record in records] if version == 2 else records)
+    return build
+
+
+def rivers_in_both():
+    """(name, river): each is sent in version 2, and in version 1 beside it."""
+    yield "small table", small_river()
+    yield "dams", dam_river()
+    yield from ((name, (table, records)) for name, table, records in curve_rivers())
+    yield from (("river", lambda random: some_river(random, gauge_count=random.choice((1, 2, 5)))) for _ in range(12))
+    yield "river of 64", lambda random: some_river(random, counts=(64,), steps=(2,), ways=("typical",), gauge_count=16)
+
+
+def river_in_floats(random):
+    """Records of either version, one after the other."""
+    table, records = some_river(random, steps=(3, 6))
+    return whole_input(table, [in_floats(record, random) if random.random() < 0.7 else record for record in records])
+
+
+def some_trouble(random):
+    """A float that is mostly refused."""
+    return random.choice((random.getrandbits(32), random.choice(list(SPECIAL.values())), random.choice(NEAR_30_METRES),
+                          random.choice(EXACT_HALVES), float_bits(random.uniform(0, 33))))
+
+
+def mixed_floats(random):
+    """Accepted and refused records of both versions in one run."""
+    table, records = some_river(random, steps=(8, 20), ways=("typical", "typical", "ceiling"), gauge_count=random.choice((1, 2, 5)))
+    data = table_bytes(table)
+    for record in records:
+        rains, stages, releases, version = in_floats(record, random)
+        rains, releases, size = list(rains), list(releases), 4
+        trouble = random.choice(("none", "none", "float", "float", "floats", "rain", "release", "other version", "unknown version"))
+        if trouble in ("float", "floats") and stages:
+            for _ in range(1 if trouble == "float" else 3):
+                stages[random.randrange(len(stages))] = some_trouble(random)
+        elif trouble == "rain" and rains:
+            rains[random.randrange(len(rains))] = 3_001
+        elif trouble == "release" and releases:
+            releases[random.randrange(len(releases))] = CEILING + 1
+        elif trouble == "other version":
+            stages, version, size = [random.choice((30_001, stage)) for stage in record[1]], 1, 2
+        elif trouble == "unknown version":
+            version, size = random.choice((0, 3, 255)), random.choice((2, 2, 2, 4))
+        data += record_bytes(rains, stages, releases, version, size=size)
+    return data
+
+
 # ---- Cut, spoiled and random inputs ----------------------------------------------------------------------------------------------------
 
 
@@ -752,7 +961,7 @@ def mixed_records(random):
         for _ in range(random.choice((0, 0, 1, 2))):
             trouble = random.choice(("version", "rain", "release", "stage", "depth"))
             if trouble == "version":
-                version = random.choice((0, 2, 255))
+                version = random.choice((0, 3, 255))
             elif trouble == "rain" and rains:
                 rains[random.randrange(len(rains))] = random.choice((3_000, 3_001, GAP))
             elif trouble == "release" and releases:
@@ -891,7 +1100,7 @@ def inputs(long=False):
         add("9,999 steps and three more", ten_thousand_steps(good * 3, 9_999), fractions=False)
         for last in (b"\0", b"\0\1", b"\0\1\1", b"\0\1\2", record_bytes((3_001,), (1_000,))):
             add("10,000 steps and a wrong one", ten_thousand_steps(last), fractions=False)
-    refused, accepted = record_bytes((), (), version=2), record_bytes((), ())
+    refused, accepted = record_bytes((), (), version=3), record_bytes((), ())
     add("100,000 records", many_records(refused, 99_999, accepted), fractions=False)
     add("more than 100,000 records", many_records(refused, 100_000, accepted + b"\0"), fractions=False)
     if long:
@@ -903,7 +1112,33 @@ def inputs(long=False):
             add(f"last place: {name}", fixed(whole_input(table, [record, record])))
     for name, table, records in curve_rivers():
         add(f"curve: {name}", fixed(whole_input(table, records)))
+    add_floats(add, long)
     return found
+
+
+def add_floats(add, long):
+    for name, table, records in float_rivers():
+        add(f"float: {name}", fixed(whole_input(table, records)))
+    for name, river in rivers_in_both():
+        add(f"float: {name} as in version 1", in_version(2, river), twin=in_version(1, river))
+    for name, data in float_orders():
+        add(f"order: {name}", fixed(data))
+    for rule, edit in float_edits():
+        add(f"rule {rule}", lambda random, edit=edit: edited([edit], float_river))
+    floats, first = edited([], float_river), len(table_bytes(float_river()[0]))
+    for at in range(first, len(floats), 1 if long else 2):
+        add(f"float river cut at {at}", fixed(floats[:at]))
+        for value in spoiled_values(floats[at])[:None if long else 1]:
+            add(f"float river spoiled at {at} by {value}", fixed(spoiled(floats, at, value)))
+    for build, quick, many in ((river_in_floats, 40, 1_500), (mixed_floats, 40, 1_500)):
+        for _ in range(many if long else quick):
+            add(build.__name__, build)
+    if long:
+        bits = near_halves()
+        for at in range(0, len(bits), 8_000):
+            add("float: all halves", fixed(whole_input(float_table(16), float_rows(bits[at:at + 8_000]))))
+        for _ in range(40):
+            add("float: any bits", lambda random: whole_input(float_table(), float_rows([some_trouble(random) for _ in range(1_000)], 1)))
 
 
 def random_for(seed, number):

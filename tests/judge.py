@@ -6,7 +6,8 @@
   limit      where no reading has come in at or above an element, its discharge margin is at most 16 x n x c,
              n being step count plus lead and c the count of elements at or above
 
-form, fractions and limit look at the program's own lines and at the input, never at the whole-number calculator.
+form, fractions and limit look at the program's own lines and at the input, never at the whole-number calculator. A fifth check, versions,
+looks at two outputs: the same readings in records of either version print the same lines (M-104).
 """
 import re
 
@@ -133,6 +134,13 @@ def judge(data, output, expected, fractions=True):
     except Exception as error:  # a wrong program may accept a record that the run in fractions cannot read
         found["form"] = f"{type(error).__name__}: {error}"
     return found
+
+
+def version_complaint(output, other):
+    """The check versions: a dict as judge gives it, of the output for records of version 2 beside that for version 1."""
+    lines, others = output.split(b"\n"), other.split(b"\n")
+    apart = next((line for line, pair in enumerate(zip(lines, others), 1) if pair[0] != pair[1]), min(len(lines), len(others)))
+    return {} if lines == others else {"versions": f"differs from version 1 at line {apart}"}
 
 
 def chosen_numbers(data):
