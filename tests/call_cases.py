@@ -2,7 +2,7 @@
 
 cases() lists them; nothing is built before it is asked for. What standard input can reach is tried in inputs.py; here is the rest:
 states that no run brings about, lent space, places that no call may touch, each of rule 16's numbers on the ceiling, old and new outflows
-above a reach, looks along a curve, and trials of a step.
+above a reach, looks along a curve, trials of a step, floats in steps and trials, and what a display gets.
 """
 from dataclasses import dataclass, replace
 from itertools import product
@@ -11,9 +11,11 @@ from typing import Callable
 from calculator.encode import big_endian, record_bytes, table_bytes
 from calculator.whole_numbers import (BASIN, CEILING, GAP, MOST_ELEMENTS, RULES, SCALE, Figures, Refused, Rules, State, decode_table, start,
                                       step)
-from inputs import (ABOVE_ALL, CURVE_EDGES, DAM_RECORDS, FIVE_TOPS, SHAPES, SMALL_RECORDS, WAYS, basin, count_of, curve_rivers, dam,
-                    dam_edits, dam_river, dam_table, gauge, last_places, mean_inflow_rivers, rule_edits, reach, river_of_curves,
-                    small_river, small_table, some_curve, some_records, some_stage, some_table, spoiled, spoiled_values, stages_of,
+from inputs import (ABOVE_ALL, BYTE_ORDERS, CURVE_EDGES, DAM_RECORDS, EXACT_HALVES, FIVE_TOPS, FLOAT_GAP, FLOAT_RECORDS, HALVES_OF_THIRTEEN,
+                    NEAR_30_METRES, SHAPES, SMALL_RECORDS, SPECIAL, WAYS, at_each_gauge, basin, count_of, curve_rivers, dam, dam_edits,
+                    dam_river, dam_table, float_bits, float_edits, float_river, float_rivers, float_rows, float_table, gauge, in_floats,
+                    last_places, mean_inflow_rivers, near_halves, rule_edits, reach, river_of_curves, small_river, small_table,
+                    some_curve, some_records, some_stage, some_table, some_trouble, spoiled, spoiled_values, stage_bits, stages_of,
                     taking_curve)
 
 LARGEST = 2 ** 64 - 1
@@ -23,14 +25,14 @@ ROOM_FOR_ALL = 4 * 64 * 13
 @dataclass(frozen=True)
 class Call:
     name: str
-    entry: str  # start, step, forecast, trial, check, version or rate
+    entry: str  # start, step, forecast, trial, check, version, rate or show
     table: bytes
     state: State
     record: bytes = b""
     lent: tuple = ()  # the lent numbers before the call
     side: int = 0  # 0: bytes, state and numbers stand right before a page without access, 1: right after one
-    gauge: int = 0  # of a rate, as its stage
-    stage: int = 0
+    asked: tuple = (0, 0)  # gauge and stage of a rate, discharge and margin of a show
+    twin: bool = False  # the call before has the same readings in a record of the other version: the replies must be equal
 
 
 @dataclass
@@ -463,7 +465,7 @@ def spoiled_calls(random):
 
 
 def last_place_calls(random):
-    """Rules 5 to 7, 12 to 14 and 17 at the last place that they can be broken at."""
+    """Rules 5 to 7, 12 to 14, 17 and 18 at the last place that they can be broken at."""
     for name, *rivers in last_places():
         for table, record in rivers:
             data = table_bytes(table)
@@ -545,7 +547,7 @@ def release_orders(random):
     flooded["elements"][0] |= dict(area=400_000)  # a rain of 3,000 brings 16
     for first, table, given in (("17", DAMS, state), ("8 and 17", DAMS, replace(state, steps=10_001)),
                                 ("9 and 17", DAMS, replace(state, steps=10_000)), ("16 and 17", table_bytes(flooded), state)):
-        for second, rain, stage, version in (("nothing", 3_000, GAP, 1), ("11", 3_000, GAP, 2), ("12", 3_001, GAP, 1), ("13", 3_000, 30_001, 1),
+        for second, rain, stage, version in (("nothing", 3_000, GAP, 1), ("11", 3_000, GAP, 3), ("12", 3_001, GAP, 1), ("13", 3_000, 30_001, 1),
                                              ("14", 3_000, 499, 1)):
             record = record_bytes((rain, 0), (stage,), (0, CEILING + 1), version)
             yield Call(f"{first}, {second} beside it", "step", table, given, record, side=random.randrange(2))
@@ -648,7 +650,7 @@ def rate_calls(name, random, table, asked):
     """A rate of each of these pairs of gauge and stage."""
     state = noise_state(random)
     for number, stage in asked:
-        yield Call(f"{name}, gauge {number}, stage {stage}", "rate", table, state, side=random.randrange(2), gauge=number, stage=stage)
+        yield Call(f"{name}, gauge {number}, stage {stage}", "rate", table, state, side=random.randrange(2), asked=(number, stage))
 
 
 def looks(name, random, asked):
@@ -772,7 +774,7 @@ def rates_of_spoiled(random):
         value = random.choice(spoiled_values(SMALL[size]))
         yield from rate_calls(f"table spoiled at {size} by {value}", random, spoiled(SMALL, size, value), [random.choice(asked)])
     for side in (0, 1):
-        yield Call("no table", "rate", b"", noise_state(random), side=side, gauge=1, stage=side * 30_001)
+        yield Call("no table", "rate", b"", noise_state(random), side=side, asked=(1, side * 30_001))
 
 
 def mixed_curve(random):
@@ -842,7 +844,7 @@ def several_refusals(random):
                                    replace(with_figure(state, 3, 0, CEILING + 1), steps=10_000)))
         else:
             state = with_figure(with_figure(with_figure(state, 0, 1, CEILING), 1, 1, CEILING), 2, 1, CEILING)  # 16
-        version, rain, stage = random.choice((1, 1, 2)), random.choice((3_000, 3_001)), random.choice((GAP, 499, 30_001))
+        version, rain, stage = random.choice((1, 1, 3)), random.choice((3_000, 3_001)), random.choice((GAP, 499, 30_001))
         fields = random.choice((((rain, 0), (stage, GAP)), ((0, rain), (stage, 30_001)), ((rain,), (stage, GAP)), None))
         record = record_bytes(*fields, version=version) if fields else b"\0"
         yield from both("several", random, state, table_bytes(table), record, random.choice((0, 47, 48, 60)))
@@ -913,7 +915,7 @@ def entry_calls():
               14: with_rain(s, 1, 0, 3_001), 15: with_figure(s, 2, 2, CEILING + 1)}
     states |= {6 + which: with_figure(s, 1, which, CEILING + 1) for which in range(4)}
     states |= {11 + which: with_rain(s, 0, which, 3_001) for which in range(3)}
-    records = {19: [0, 5], 20: [0, 5, 2, 0, 100, 5, 120], 21: [0, 5, 1, 11, 185, 117, 49], 22: [0, 5, 1, 0, 100, 117, 49],
+    records = {19: [0, 5], 20: [0, 5, 3, 0, 100, 5, 120], 21: [0, 5, 1, 11, 185, 117, 49], 22: [0, 5, 1, 0, 100, 117, 49],
                23: [0, 5, 1, 0, 100, 1, 243], 24: [0, 5, 1, 0, 100, 255, 255]}
     yield Call("entry call 1", "start", TWO, marked)
     yield Call("entry call 2", "step", TWO, first, good)
@@ -977,8 +979,10 @@ def refused_by_each():
         yield number, table, right, state
     for number, steps in ((8, 10_001), (9, 10_000), (0, 9_999)):
         yield number, DAMS, right, replace(state, steps=steps)
-    for number, record in ((10, right[:-1]), (11, recorded(version=2)), (12, recorded(rains=(0, 3_001))),
-                           (17, recorded(releases=(0, CEILING + 1))), (13, recorded(stages=(30_001,))), (14, recorded(stages=(499,)))):
+    for number, record in ((10, right[:-1]), (11, recorded(version=3)), (12, recorded(rains=(0, 3_001))),
+                           (17, recorded(releases=(0, CEILING + 1))), (13, recorded(stages=(30_001,))), (14, recorded(stages=(499,))),
+                           (0, recorded(stages=(stage_bits(1_500),), version=2)), (18, recorded(stages=(float_bits(30.001),), version=2)),
+                           (14, recorded(stages=(stage_bits(499),), version=2))):
         yield number, DAMS, record, state
 
 
@@ -1134,6 +1138,7 @@ def random_independence(random):
 def trial_cases():
     edits = [(rule, edited_calls(edit)) for rule, edit in rule_edits()]
     edits += [(rule, edited_calls(edit, dam_river)) for rule, edit in dam_edits()]
+    edits += [(rule, edited_calls(edit, float_river)) for rule, edit in float_edits()]
     for rule in sorted({rule for rule, _ in edits}):
         yield f"rule {rule}", trials_of(*(build for about, build in edits if about == rule))
     yield "order of 15", trial_orders
@@ -1147,6 +1152,8 @@ def trial_cases():
     for name, build in ceiling_cases():
         if "forecast" not in name and " alone" not in name:
             yield f"ceiling, {name.removesuffix(', step')}", trials_of(build)
+    yield from ((f"float, {name}", trials_of(build)) for name, build in float_cases() if name != "random")
+    yield from (("float, random", trials_of(random_floats, more=(-1, 0, 0, 3))) for _ in range(10))
     yield "last places", trials_of(last_place_calls)
     yield "cut and spoiled", cut_trials
     for name, build, count in (("several refusals", several_refusals, 6), ("random", random_calls(), 150),
@@ -1154,6 +1161,7 @@ def trial_cases():
         yield from ((name, trials_of(build, more=(-1, 0, 0, 3))) for _ in range(count))
     yield from ((f"independence, {name}", independence(*river)) for name, *river in independence_rivers())
     yield "independence, every network of 3", independence_of_small
+    yield "independence, floats", float_independence
     yield from (("independence, random", random_independence) for _ in range(30))
 
 
@@ -1163,6 +1171,149 @@ def trial_run_cases():
     yield from (("run", trial_runs()) for _ in range(20))
     yield "run of 12", trial_runs(12)
     yield from ((f"curve, {name}", trials_of(steps_of(table, records))) for name, table, records in curve_rivers())
+
+
+# ---- Floats ------------------------------------------------------------------------------------------------------------------------------
+
+FLOATS = table_bytes(float_river()[0])
+FLOAT_RECORD = record_bytes(*FLOAT_RECORDS[2])
+
+
+def float_steps(table, records):
+    """A step on each record, all from one state, so that a refused one must leave it."""
+    data = table_bytes(table)
+
+    def build(random):
+        state = replace(start(data, noise_state(random)), steps=3)
+        for number, record in enumerate(records, 1):
+            yield Call(f"record {number}", "step", data, state, record_bytes(*record), side=random.randrange(2))
+    return build
+
+
+def float_orders(random):
+    """18 beside each number of a step: it stands after 13 and before 14."""
+    state, flooded = moved_state(random, *float_river()), float_river()[0]
+    flooded["elements"][0] |= dict(area=400_000)  # a rain of 3,000 brings 16
+    for first, table, given in (("18", FLOATS, state), ("8 and 18", FLOATS, replace(state, steps=10_001)),
+                                ("9 and 18", FLOATS, replace(state, steps=10_000)), ("16 and 18", table_bytes(flooded), state)):
+        for bad in (float_bits(30.001), float_bits(-1e-4), 0xFFC0_0000, 0x7F80_0000):
+            for second, rain, release, other in (("nothing", 3_000, 0, FLOAT_GAP), ("12", 3_001, 0, FLOAT_GAP), ("17", 0, CEILING + 1, FLOAT_GAP),
+                                                 ("14", 0, 0, stage_bits(400))):
+                for stages in ((bad, other), (other, bad)):
+                    record = record_bytes((rain, 0), stages, (release, 0), 2)
+                    yield Call(f"{first}, {second} beside it", "step", table, given, record, side=random.randrange(2))
+
+
+def float_records_cut(random):
+    """A record of version 2 cut at each byte, as its length says and not, longer, and by versions of either length."""
+    state = moved_state(random, *float_river())
+    for size in range(len(FLOAT_RECORD)):
+        yield Call(f"record cut at {size}", "step", FLOATS, state, FLOAT_RECORD[:size], side=random.randrange(2))
+    for record in (*(FLOAT_RECORD[:size] for size in range(2, len(FLOAT_RECORD))), FLOAT_RECORD + bytes(2), FLOAT_RECORD + bytes(4)):
+        told = big_endian(len(record) - 2, 2) + record[2:]
+        yield Call(f"record of {len(record)} bytes", "step", FLOATS, state, told, side=random.randrange(2))
+    for version in (0, 1, 2, 3, 4, 127, 128, 130, 254, 255):
+        for size in (2, 4):
+            for length in (None, 17, 21):
+                record = record_bytes((5, 6), (500, 600), (7, 8), version, length, size)
+                yield Call(f"version {version}, {size} bytes a gauge, length {length}", "step", FLOATS, state, record)
+
+
+def in_both_versions(river, entry):
+    """Each record of a river in version 1, and in version 2 by any float of the same millimetres; the state of the run."""
+    def build(random):
+        table, records = river() if callable(river) else river
+        data, need = table_bytes(table), 4 * len(table["elements"])
+        state = start(data, noise_state(random))
+        for record in records:
+            lent = lent_numbers(random, need + 1) if entry == "trial" else ()
+            call = Call(f"version 1, {entry}", entry, data, state, record_bytes(*record), lent, random.randrange(2))
+            yield call
+            yield replace(call, name=f"version 2, {entry}", record=record_bytes(*in_floats(record, random)), twin=True)
+            try:
+                state = step(data, record_bytes(*record), state)
+            except Refused:
+                pass
+    return build
+
+
+def float_independence(random):
+    """By gauge trials with one float, another, a gap and minus zero: each differs from the next, and only where the gauge's water comes."""
+    elements, gauged = [reach(down=3, **water()), reach(down=3, **water()), reach(down=4, **water()), dam(**water())], (1, 2, 3)
+    table = table_bytes(dict(T=60, L=1, elements=elements, gauges=[gauge(number, R=50_000, pieces=[(30_001, 900, 0)]) for number in gauged]))
+    state, others = start(table, noise_state(random)), [float_bits(0.9), float_bits(1.1), float_bits(1.3)]
+    for number, _ in enumerate(gauged):
+        for bits in (float_bits(0.7), float_bits(1.2345), FLOAT_GAP, 0x8000_0000, float_bits(2.0)):
+            record = record_bytes((), (*others[:number], bits, *others[number + 1:]), (10 ** 6,), 2)
+            yield trial_call(f"gauge {number + 1}, {bits:08X}", random, table, record, state)
+
+
+def random_floats(random):
+    """A random river and state with a record of version 2 of which one float or another is mostly refused."""
+    table = some_table(random, random.choice((1, 3, 5)), random.choice(SHAPES), "typical", leads=1, gauge_count=random.choice((1, 2, 5)))
+    data, (rains, stages, releases, version) = table_bytes(table), in_floats(some_records(random, table, 1, "typical")[0], random)
+    state = replace(fitting_state(random, data, "small"), steps=3)
+    for _ in range(4):
+        spoiled_stages = [some_trouble(random) if random.random() < 0.4 else bits for bits in stages]
+        yield Call("random", "step", data, state, record_bytes(rains, spoiled_stages, releases, version), side=random.randrange(2))
+
+
+def float_cases():
+    for name, table, records in (("exact halves", float_table(16), float_rows(EXACT_HALVES)),
+                                 ("near half a millimetre", float_table(16), float_rows(near_halves(113))),
+                                 ("near 30 m", float_table(), float_rows(NEAR_30_METRES, 1)),
+                                 ("special patterns", float_table(), float_rows(list(SPECIAL.values()), 1)),
+                                 ("special patterns at each gauge", float_table(16), at_each_gauge([*SPECIAL.values()] * 2)),
+                                 ("byte order", float_table(), float_rows(BYTE_ORDERS, 1)),
+                                 ("halves of 13", float_table(16), float_rows(HALVES_OF_THIRTEEN * 8))):
+        yield name, float_steps(table, records)
+    yield "order of 18", float_orders
+    yield "cut records and versions", float_records_cut
+    yield from (("random", random_floats) for _ in range(40))
+
+
+def both_version_cases():
+    for name, river in (("small river", small_river), ("dams", dam_river),
+                        *((name, (table, records)) for name, table, records in curve_rivers())):
+        for entry in ("step", "trial"):
+            yield f"{name} as in version 1, {entry}", in_both_versions(river, entry)
+
+
+# ---- What a display gets -----------------------------------------------------------------------------------------------------------------
+
+
+def show_calls(random, pairs):
+    state = noise_state(random)
+    for discharge, margin in pairs:
+        yield Call(f"show {discharge} and {margin}", "show", b"", state, asked=(discharge, margin))
+
+
+COUNTS = (0, 1, 2, 3, 5, 7, 10, 999, 1_000, 999_999, 10 ** 6, 10 ** 6 + 1, 63_212_055, 123_456_789, 2 ** 31, 2 ** 31 + 1, CEILING - 1, CEILING)
+ABOVE = (CEILING + 1, CEILING + 2, 2 ** 32 - 1, 2 ** 32, 2 ** 32 + 5, 2 ** 53, 2 ** 53 + 1, 2 ** 63 - 1, 2 ** 63, 2 ** 63 + 5, LARGEST)
+
+
+def shown_counts(random):
+    """Small counts, round ones, C, and each of these on either side."""
+    yield from show_calls(random, [(count, other) for count in COUNTS for other in (0, 1, CEILING, count)])
+    yield from show_calls(random, [(other, count) for count in COUNTS for other in (0, 1, CEILING)])
+
+
+def shown_above(random):
+    """Counts above C on one side, on the other, and on both: 16, both floats 0."""
+    yield from show_calls(random, [pair for above in ABOVE for count in (0, 5 * 10 ** 6, CEILING) for pair in ((above, count), (count, above))])
+    yield from show_calls(random, [(above, other) for above in ABOVE for other in (CEILING + 1, LARGEST)])
+
+
+def shown_at_random(random):
+    def some():
+        return random.randint(0, random.choice((CEILING, 10 ** 7, 10 ** 4)))
+    yield from show_calls(random, [(some(), some()) for _ in range(150)])
+
+
+def show_cases():
+    yield "counts", shown_counts
+    yield "above C", shown_above
+    yield "random", shown_at_random
 
 
 # ---- The list ----------------------------------------------------------------------------------------------------------------------------
@@ -1176,6 +1327,7 @@ def check_calls(random):
         yield Call(f"N {count}, L {leads}, M {gauge_count}", "check", table_bytes(table), nothing, side=random.randrange(2))
     for size in range(len(SMALL) + 1):
         yield Call(f"table cut at {size}", "check", SMALL[:size], nothing, side=random.randrange(2))
+    yield Call("floats", "check", FLOATS, nothing)
     for river, edits in ((small_river, rule_edits()), (dam_river, dam_edits())):
         for _, edit in edits:
             table, records = river()
@@ -1232,4 +1384,9 @@ def cases():
     found += [Case(f"curve: {name}", steps_of(table, records), exact=True) for name, table, records in curve_rivers()]
     found += [Case(f"trial: {name}", build) for name, build in trial_cases()]
     found += [Case(f"trial: {name}", build, exact=True) for name, build in trial_run_cases()]
+    found += [Case(f"rule {rule}", edited_calls(edit, float_river)) for rule, edit in float_edits()]
+    found += [Case(f"float: {name}", build) for name, build in (*float_cases(), *both_version_cases())]
+    for name, table, records in float_rivers():
+        found.append(Case(f"float: {name}, run", steps_of(table, records), exact=True))
+    found += [Case(f"show: {name}", build) for name, build in show_cases()]
     return found

@@ -2,11 +2,11 @@
  *
  *   gcc -O2 -Iinclude tests/calls.c target/staticlib/libriver.a
  *
- * A call: seven numbers of 8 bytes in the machine's order (entry, side, bytes of table, bytes of record, numbers lent, gauge, stage), then
- * the table's bytes, the record's bytes, the 450 numbers of the state and the lent numbers. A reply: refusal, count, whether all that the
- * host keeps stayed as it was, how many numbers follow, and these: the 450 of the state afterwards (start, step), all that were lent
- * (forecast, trial), the plan's eight after its refusal (check), the library's version and the header's (version), or discharge and pieces
- * (rate).
+ * A call: seven numbers of 8 bytes in the machine's order (entry, side, bytes of table, bytes of record, numbers lent, and two that are
+ * asked about), then the table's bytes, the record's bytes, the 450 numbers of the state and the lent numbers. Asked about are a gauge and a
+ * stage (rate) or a discharge and a margin (show). A reply: refusal, count, whether all that the host keeps stayed as it was, how many
+ * numbers follow, and these: the 450 of the state afterwards (start, step), all that were lent (forecast, trial), the plan's eight after its
+ * refusal (check), the library's version and the header's (version), discharge and pieces (rate), or the bits of two floats (show).
  *
  * Table, record, state and lent numbers each end where a page without access begins (side 0) or begin where one ends (side 1), so that a
  * read or write past that end ends this program by a signal; so does a write into what a call is given to read alone.
@@ -18,7 +18,7 @@
 #include <sys/mman.h>
 #include "river.h"
 
-enum { START = 1, STEP = 2, FORECAST = 3, CHECK = 4, VERSION = 5, RATE = 6, TRIAL = 7 };
+enum { START = 1, STEP = 2, FORECAST = 3, CHECK = 4, VERSION = 5, RATE = 6, TRIAL = 7, SHOW = 8 };
 enum { PAGE = 4096, ROOM = 128 * 1024, MARK = 0xA5, STATE_NUMBERS = 450 };
 _Static_assert(sizeof(river_state) == 8 * STATE_NUMBERS, "a state is 450 numbers");
 
@@ -118,6 +118,13 @@ static void rate_call(uint64_t gauge, uint64_t stage)
     reply(got.refusal, 0, inputs_stayed() && stayed(&state) && stayed(&numbers), 2, rating);
 }
 
+static void show_call(uint64_t discharge, uint64_t margin)
+{
+    river_shown got = river_show(discharge, margin);
+    double shown[2] = {got.discharge, got.margin};
+    reply(got.refusal, 0, inputs_stayed() && stayed(&state) && stayed(&numbers), 2, shown);
+}
+
 int main(void)
 {
     uint64_t head[7];
@@ -135,6 +142,7 @@ int main(void)
         case CHECK: check_call(); break;
         case VERSION: version_call(); break;
         case RATE: rate_call(head[5], head[6]); break;
+        case SHOW: show_call(head[5], head[6]); break;
         default: return 2;
         }
     }

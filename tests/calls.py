@@ -5,10 +5,10 @@
     python3 tests/calls.py [--seed S] [--only K] [library]
 
 The library is target/staticlib/libriver.a unless another path is given; tests/calls.c is linked with it (gcc) and makes the calls. Compared
-are the refusal, all 450 numbers of the lent state, the count and all lent numbers, or what a rate answers, and whether the host's own
-memory stayed as it was.
-Some neighbouring calls are held against each other too, whatever the calculator says: a trial against the step that follows it, and two
-trials that differ in one gauge's reading. Runs from a start are judged by the run in fractions too. The last line is "calls: N calls in M
+are the refusal, all 450 numbers of the lent state, the count and all lent numbers, what a rate answers, or the bits of what a display gets,
+and whether the host's own memory stayed as it was.
+Some neighbouring calls are held against each other too, whatever the calculator says: a trial against the step that follows it, two trials
+that differ in one gauge's reading, and two calls with the same readings in records of either version. Runs from a start are judged by the run in fractions too. The last line is "calls: N calls in M
 cases, F failed"; the exit code is 0 only where none failed. A failed case can be made again by its seed and number.
 """
 import argparse
@@ -20,12 +20,13 @@ from dataclasses import dataclass
 from pathlib import Path
 
 from call_cases import cases
+from calculator import floats
 from calculator.fractions_run import ExactNumbers, EnclosedNumbers, FractionsRun
 from calculator.whole_numbers import RULES, Refused, decode_table
 from inputs import random_for
 
 ROOT = Path(__file__).resolve().parent.parent
-ENTRIES = {"start": 1, "step": 2, "forecast": 3, "check": 4, "version": 5, "rate": 6, "trial": 7}
+ENTRIES = {"start": 1, "step": 2, "forecast": 3, "check": 4, "version": 5, "rate": 6, "trial": 7, "show": 8}
 VERSION = 4  # of the interface
 MOST_SHOWN = 20  # failed cases that are told of
 TIME_LIMIT = 60  # seconds for all calls
@@ -36,7 +37,7 @@ class Reply:
     refusal: int
     count: int  # numbers written by a forecast or a trial
     kept: int  # 1: all that the host keeps stayed as it was
-    numbers: array  # the state's afterwards, all that were lent, the plan's, the versions of library and header, or discharge and pieces
+    numbers: array  # the state's afterwards, all that were lent, the plan's, the versions, discharge and pieces, or the bits of two floats
 
 
 def state_numbers(state):
@@ -62,7 +63,7 @@ class Library:
     def refused(self, call, number):
         if call.entry in ("forecast", "trial"):
             return Reply(number, 0, 1, array("Q", call.lent))
-        if call.entry in ("check", "rate"):
+        if call.entry in ("check", "rate", "show"):
             return Reply(number, 0, 1, array("Q", [0] * (8 if call.entry == "check" else 2)))
         return Reply(number, 0, 1, state_numbers(call.state))
 
@@ -90,8 +91,11 @@ class Library:
         return Reply(0, 0, 1, array("Q", (VERSION, VERSION)))
 
     def rate(self, call):
-        rating = self.rules.rate(call.table, call.gauge, call.stage)
+        rating = self.rules.rate(call.table, *call.asked)
         return Reply(rating.refusal, 0, 1, array("Q", (rating.discharge, rating.pieces)))
+
+    def show(self, call):
+        return Reply(0, 0, 1, array("Q", self.rules.show(*call.asked)))
 
 
 # ---- The built library -------------------------------------------------------------------------------------------------------------------
@@ -106,7 +110,7 @@ def built_driver(library):
 
 
 def call_bytes(call):
-    head = array("Q", (ENTRIES[call.entry], call.side, len(call.table), len(call.record), len(call.lent), call.gauge, call.stage))
+    head = array("Q", (ENTRIES[call.entry], call.side, len(call.table), len(call.record), len(call.lent), *call.asked))
     return head.tobytes() + call.table + call.record + state_numbers(call.state).tobytes() + array("Q", call.lent).tobytes()
 
 
@@ -199,10 +203,11 @@ def reached(table, gauge):
 
 
 def changed_gauge(table, one, other):
-    """The gauge (from 0) in whose stage alone two records differ; None where they differ in more, or in nothing."""
-    stages = len(one) - 2 * table[9]
-    changed = [gauge for gauge in range(table[9]) if one[stages + 2 * gauge:][:2] != other[stages + 2 * gauge:][:2]]
-    return changed[0] if len(one) == len(other) and one[:stages] == other[:stages] and len(changed) == 1 else None
+    """The gauge (from 0) in whose reading alone two records differ; None where they differ in more, or in nothing."""
+    size = 4 if one[2] == 2 else 2
+    readings = len(one) - size * table[9]
+    changed = [gauge for gauge in range(table[9]) if one[readings + size * gauge:][:size] != other[readings + size * gauge:][:size]]
+    return changed[0] if len(one) == len(other) and one[:readings] == other[:readings] and len(changed) == 1 else None
 
 
 def step_complaint(trial, step):
@@ -227,6 +232,8 @@ def neighbour_complaints(calls, replies):
     """What neighbouring calls on one table and state say against each other, by place of the second; None where nothing."""
     for place in range(1, len(calls)):
         (one, other), (reply, next_reply) = calls[place - 1:place + 1], replies[place - 1:place + 1]
+        if other.twin:
+            yield place, None if reply == next_reply else "the same readings in the other version are answered otherwise"
         if one.entry != "trial" or one.table != other.table or one.state is not other.state:
             continue
         if other.entry == "step" and one.record == other.record:
@@ -253,7 +260,7 @@ def compare(case, calls, expected, replies):
 
 
 def show(call, expected, reply):
-    print(f"{call.name}: {call.entry}, side {call.side}, {len(call.lent)} lent, gauge {call.gauge}, stage {call.stage}")
+    print(f"{call.name}: {call.entry}, side {call.side}, {len(call.lent)} lent, asked about {call.asked}")
     print(f"  table {call.table.hex()}\n  record {call.record.hex()}")
     print(f"  state {list(state_numbers(call.state))}\n  expected {expected}\n  reply    {reply}")
 
@@ -285,6 +292,7 @@ def main():
     if not Path(options.library).is_file():
         sys.exit(f"{options.library} is not there; build it by `rt staticlib river`")
     started = time.perf_counter()
+    floats.check()
     chosen = list(enumerate(cases()))
     if options.only is not None:
         chosen = [chosen[options.only]]

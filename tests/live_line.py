@@ -17,7 +17,8 @@ from pathlib import Path
 from calculator.encode import record_bytes, table_bytes
 from calculator.program import run
 from calculator.tried_figures import EXAMPLE_INPUT
-from inputs import CEILING, DAM_RECORDS, GAP, SMALL_RECORDS, dam_table, random_for, small_table, some_records, some_table
+from inputs import (CEILING, DAM_RECORDS, FLOAT_GAP, FLOAT_RECORDS, GAP, SMALL_RECORDS, dam_table, float_bits, float_river, random_for,
+                    small_table, some_records, some_table)
 
 ROOT = Path(__file__).resolve().parent.parent
 PATIENCE = 2  # seconds within which an answer must come
@@ -124,7 +125,7 @@ def table_and_record_at_once(line):
 def refused_records(line):
     """Refusals 11 to 14 are answered like steps; 10 by a wrong length ends the run while the line is open."""
     line.send(SMALL, 5)
-    for rains, stages, version in (((0, 0), (GAP, GAP), 2), ((3_001, 0), (GAP, GAP), 1), ((0, 0), (30_001, GAP), 1), ((0, 0), (0, GAP), 1),
+    for rains, stages, version in (((0, 0), (GAP, GAP), 3), ((3_001, 0), (GAP, GAP), 1), ((0, 0), (30_001, GAP), 1), ((0, 0), (0, GAP), 1),
                                    ((5, 6), (1_500, 999), 1)):
         line.send(record_bytes(rains, stages, version=version), 3)
         line.answered()
@@ -139,6 +140,18 @@ def releases(line):
     for record in (DAM_RECORDS[0], ((0, 0), (GAP,), (0, CEILING + 1)), DAM_RECORDS[1]):
         line.send(record_bytes(*record), 4)
         line.answered()
+    line.close()
+
+
+def floats(line):
+    """Records of both versions: a float above 30 m is answered by 18, and the run goes on."""
+    line.send(table_bytes(float_river()[0]))
+    too_high = (0, 0), (float_bits(30.001), FLOAT_GAP), (0, 0), 2
+    for record in (FLOAT_RECORDS[0], too_high, ((5, 6), (1_500, GAP), (7, 8)), FLOAT_RECORDS[1]):
+        line.send(record_bytes(*record), 4)
+        line.answered()
+    line.send(record_bytes(*FLOAT_RECORDS[2])[:-4], 2)  # as long as one of version 1
+    line.silent()
     line.close()
 
 
@@ -186,8 +199,8 @@ def largest_river(line):
 
 
 LINES = {"whole records": whole_records, "bytes one by one": bytes_one_by_one, "table and record at once": table_and_record_at_once,
-         "refused records": refused_records, "releases": releases, "refused table": refused_table, "long table": long_table,
-         "largest river": largest_river}
+         "refused records": refused_records, "releases": releases, "floats": floats, "refused table": refused_table,
+         "long table": long_table, "largest river": largest_river}
 LINES |= {f"record cut at {left}": cut_record(left) for left in (0, 1, 2, 3, 10)}
 LINES |= {f"table cut at {left}": cut_table(left) for left in (0, 3, 4, 9, len(SMALL) - 1)}
 

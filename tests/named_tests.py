@@ -167,7 +167,7 @@ def main():
             failed += 1
             print(f"FAILED {row.section}, {row.first}: {complaint}")
     rules = {row.first for row in rows if row.section == RULES_SECTION}
-    for rule in range(1, 18):
+    for rule in range(1, 19):
         if str(rule) not in rules:
             failed += 1
             print(f"FAILED {RULES_SECTION}: no row for {rule}")
