@@ -97,3 +97,12 @@ river_rating NAMED(rate)(const uint8_t *table, size_t table_bytes, size_t gauge,
     if (refusal || stage == GAP || gauge < 1 || gauge > t.gauge_count) return (river_rating){refusal, 0, 0};
     return look(t.gauges + GAUGE_BYTES * (gauge - 1), (u32)stage);
 }
+
+/* A count of at most C, which is exact as a float, in m3/s. */
+static inline double in_cubic_metres(u64 grains) { return (double)(int64_t)grains / 1000000.0; }
+
+river_shown NAMED(show)(uint64_t discharge, uint64_t margin)
+{
+    if (discharge > CEILING || margin > CEILING) return (river_shown){16, 0, 0};
+    return (river_shown){0, in_cubic_metres(discharge), in_cubic_metres(margin)};
+}
