@@ -1,7 +1,7 @@
 /* Times the calls of include/river.h in the proved library against the same calls in plain C, or makes some of them to be counted.
  *
  *   gcc -O3 bench/calls.c bench/plain_calls.c target/staticlib/libriver.a
- *   calls FILE times ROUNDS           FILE holds a table and records, none of which is refused
+ *   calls FILE times ROUNDS           FILE holds a table and records of one version, none of which is refused
  *   calls FILE count CALLS LIBRARY    LIBRARY is 0 for the proved one, 1 for plain C
  *
  * times: every call is made by both and the replies must be equal, also of some that are refused. Then both are timed in turn, all but
@@ -24,6 +24,7 @@ uint64_t plain_step(const uint8_t *, size_t, const uint8_t *, size_t, river_stat
 river_written plain_forecast(const uint8_t *, size_t, const river_state *, uint64_t *, size_t);
 river_written plain_trial(const uint8_t *, size_t, const uint8_t *, size_t, const river_state *, uint64_t *, size_t);
 river_rating plain_rate(const uint8_t *, size_t, size_t, uint64_t);
+river_shown plain_show(uint64_t, uint64_t);
 
 typedef struct {
     river_plan (*check)(const uint8_t *, size_t);
@@ -31,10 +32,11 @@ typedef struct {
     uint64_t (*step)(const uint8_t *, size_t, const uint8_t *, size_t, river_state *);
     river_written (*forecast)(const uint8_t *, size_t, const river_state *, uint64_t *, size_t);
     river_written (*trial)(const uint8_t *, size_t, const uint8_t *, size_t, const river_state *, uint64_t *, size_t);
+    river_shown (*show)(uint64_t, uint64_t);
 } Library;
 
-static const Library libraries[2] = {{river_check, river_start, river_step, river_forecast, river_trial},
-                                     {plain_check, plain_start, plain_step, plain_forecast, plain_trial}};
+static const Library libraries[2] = {{river_check, river_start, river_step, river_forecast, river_trial, river_show},
+                                     {plain_check, plain_start, plain_step, plain_forecast, plain_trial, plain_show}};
 
 enum { MOST_BYTES = 1 << 20, MOST_CALLS = 64, MOST_ROUNDS = 1000 };
 
@@ -101,6 +103,19 @@ static void same_rates(size_t size)
         }
 }
 
+static void same_show(uint64_t discharge, uint64_t margin)
+{
+    river_shown one = river_show(discharge, margin), other = plain_show(discharge, margin);
+    if (memcmp(&one, &other, sizeof one)) fail("the displays differ");
+}
+
+/* Each discharge and margin of the forecast that was made last; counts on the ceiling and above it. */
+static void same_shows(size_t count)
+{
+    for (size_t at = 0; at < count; at += 4) same_show(numbers[0][at], numbers[0][at + 1]);
+    for (uint64_t more = 0; more < 2; more++) same_show(4000000000 + more, 1), same_show(1, 4000000000 + more);
+}
+
 /* Makes all calls once, which fills `states`. */
 static void compare_calls(void)
 {
@@ -111,6 +126,7 @@ static void compare_calls(void)
         states[k + 1] = same_step(records[k], record_bytes, states[k]);
         if (states[k + 1].steps != k + 1) fail("a record is refused");
         same_forecast(&states[k], RIVER_MOST_NUMBERS);
+        same_shows(4 * states[k].elements);
         same_forecast(&states[k], k);
         same_trial(records[k], record_bytes, &states[k], RIVER_MOST_NUMBERS);
         same_trial(records[k], record_bytes, &states[k], 4 * states[k].elements);
@@ -158,6 +174,15 @@ static void trial_all(const Library *library)
         refusals += library->trial(input, table_bytes, records[k], record_bytes, &states[k], numbers[0], RIVER_MOST_NUMBERS).refusal;
 }
 
+/* A display of each element's lead 0, as the state has it. */
+static void show_all(const Library *library)
+{
+    for (size_t k = 0; k < calls; k++) {
+        const river_figures *figures = &states[k].place[k % states[k].elements].figures;
+        refusals += library->show(figures->discharge, figures->discharge_margin).refusal;
+    }
+}
+
 /* The numbers of a trial written out, by themselves. */
 static __attribute__((noinline)) void write_out(void) { memcpy(numbers[0], numbers[1], 4 * sizeof **numbers * moved.elements); }
 
@@ -172,6 +197,7 @@ static __attribute__((noinline)) void count_calls(const Library *library, size_t
         refusals += library->trial(input, table_bytes, records[k], record_bytes, &moved, numbers[0], RIVER_MOST_NUMBERS).refusal;
         refusals += library->step(input, table_bytes, records[k], record_bytes, &moved);
         refusals += library->forecast(input, table_bytes, &moved, numbers[0], RIVER_MOST_NUMBERS).refusal;
+        refusals += library->show(numbers[0][0], numbers[0][1]).refusal;
         write_out();
     }
 }
@@ -256,6 +282,7 @@ int main(int argc, char **argv)
         print_times("step", step_all, times);
         print_times("forecast", forecast_all, times);
         print_times("trial", trial_all, times);
+        print_times("show", show_all, times);
     }
     if (refusals) fail("a call is refused");
     return 0;

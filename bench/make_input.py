@@ -1,11 +1,12 @@
 #!/usr/bin/env python3
 """Writes a bench input to standard output: a table and its records, nothing of which is refused.
 
-    python3 bench/make_input.py [--elements 64] [--gauges 16] [--leads 12] [--steps 1000] [--seed 1] [--pieces 3] [--gaps 0.1]
+    python3 bench/make_input.py [--elements 64] [--gauges 16] [--leads 12] [--steps 1000] [--seed 1] [--pieces 3] [--gaps 0.1] [--version 1]
 
 The river: every second element a basin, which drains into a reach; the reaches form a tree that joins two by two and ends in one outlet.
 A single element is a basin. Gauges stand on reaches spread over the tree; their curves have three pieces or five, each of which is read on
-the way. Rain comes in storms, stages follow smoothly, one stage in ten (or another share) is a gap.
+the way. Rain comes in storms, stages follow smoothly, one stage in ten (or another share) is a gap. In version 2 the records have the same
+stages as floats.
 """
 import argparse
 import sys
@@ -13,9 +14,9 @@ from pathlib import Path
 from random import Random
 
 sys.path.insert(0, str(Path(__file__).resolve().parent.parent / "tests"))
-from calculator.encode import record_bytes, table_bytes  # noqa: E402
+from calculator.encode import float_bits, record_bytes, table_bytes  # noqa: E402
 
-GAP = 65_535
+GAP, FLOAT_GAP = 65_535, 0x7FC0_0000
 # By pieces in use: the top, the least a and the greatest, and b of each.
 CURVES = {3: ((1_500, 20_000, 40_000, -300), (3_000, 15_000, 30_000, -100), (30_001, 10_000, 20_000, 200)),
           5: ((600, 20_000, 40_000, -300), (1_400, 20_000, 35_000, -300), (2_200, 15_000, 30_000, -200), (3_000, 15_000, 30_000, -100),
@@ -68,12 +69,15 @@ def main():
         parser.add_argument(f"--{name}", type=int, default=default)
     parser.add_argument("--pieces", type=int, default=3, choices=sorted(CURVES))
     parser.add_argument("--gaps", type=float, default=0.1)
+    parser.add_argument("--version", type=int, default=1, choices=(1, 2))
     options = parser.parse_args()
     random = Random(options.seed)
     table = river(random, options.elements, options.gauges, options.leads, options.pieces)
     sys.stdout.buffer.write(table_bytes(table))
     for rains, stages in records(random, table, options.steps, options.gaps):
-        sys.stdout.buffer.write(record_bytes(rains, stages))
+        if options.version == 2:
+            stages = [FLOAT_GAP if stage == GAP else float_bits(stage / 1_000) for stage in stages]
+        sys.stdout.buffer.write(record_bytes(rains, stages, version=options.version))
 
 
 if __name__ == "__main__":
