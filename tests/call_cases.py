@@ -1197,8 +1197,8 @@ def float_orders(random):
     for first, table, given in (("18", FLOATS, state), ("8 and 18", FLOATS, replace(state, steps=10_001)),
                                 ("9 and 18", FLOATS, replace(state, steps=10_000)), ("16 and 18", table_bytes(flooded), state)):
         for bad in (float_bits(30.001), float_bits(-1e-4), 0xFFC0_0000, 0x7F80_0000):
-            for second, rain, release, other in (("nothing", 3_000, 0, FLOAT_GAP), ("12", 3_001, 0, FLOAT_GAP), ("17", 0, CEILING + 1, FLOAT_GAP),
-                                                 ("14", 0, 0, stage_bits(400))):
+            for second, rain, release, other in (("nothing", 3_000, 0, FLOAT_GAP), ("12", 3_001, 0, FLOAT_GAP),
+                                                 ("17", 0, CEILING + 1, FLOAT_GAP), ("14", 0, 0, stage_bits(400))):
                 for stages in ((bad, other), (other, bad)):
                     record = record_bytes((rain, 0), stages, (release, 0), 2)
                     yield Call(f"{first}, {second} beside it", "step", table, given, record, side=random.randrange(2))

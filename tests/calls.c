@@ -21,6 +21,7 @@
 enum { START = 1, STEP = 2, FORECAST = 3, CHECK = 4, VERSION = 5, RATE = 6, TRIAL = 7, SHOW = 8 };
 enum { PAGE = 4096, ROOM = 128 * 1024, MARK = 0xA5, STATE_NUMBERS = 450 };
 _Static_assert(sizeof(river_state) == 8 * STATE_NUMBERS, "a state is 450 numbers");
+_Static_assert(sizeof(river_shown) == 24, "a number and two floats of 8 bytes");
 
 /* ROOM bytes between two pages without access; `copy` is what they held before the call. */
 typedef struct {

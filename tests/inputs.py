@@ -761,11 +761,12 @@ def curve_rivers():
 
 # Signs, the ends of subnormal, normal and finite floats, and what is not a number.
 SPECIAL = {"0": 0x0000_0000, "-0": 0x8000_0000, "smallest subnormal": 0x0000_0001, "smallest subnormal below 0": 0x8000_0001,
-           "largest subnormal": 0x007F_FFFF, "smallest normal": 0x0080_0000, "largest": 0x7F7F_FFFF, "largest below 0": 0xFF7F_FFFF,
-           "infinity": 0x7F80_0000, "-infinity": 0xFF80_0000, "gap": FLOAT_GAP, "gap with a sign": 0xFFC0_0000, "gap + 1": 0x7FC0_0001,
-           "gap - 1": 0x7FBF_FFFF, "least signalling NaN": 0x7F80_0001, "signalling NaN": 0x7FA0_0000, "signalling NaN with a sign": 0xFF80_0001,
-           "last NaN": 0x7FFF_FFFF, "all ones": 0xFFFF_FFFF, "-0.0001": float_bits(-1e-4), "-0.0005": float_bits(-5e-4),
-           "-0.0006": float_bits(-6e-4), "-1": float_bits(-1.0), "-30": float_bits(-30.0)}
+           "65535": 0x0000_FFFF, "largest subnormal": 0x007F_FFFF, "smallest normal": 0x0080_0000, "largest": 0x7F7F_FFFF,
+           "largest below 0": 0xFF7F_FFFF, "infinity": 0x7F80_0000, "-infinity": 0xFF80_0000, "gap": FLOAT_GAP,
+           "gap with a sign": 0xFFC0_0000, "gap + 1": 0x7FC0_0001, "gap - 1": 0x7FBF_FFFF, "least signalling NaN": 0x7F80_0001,
+           "signalling NaN": 0x7FA0_0000, "signalling NaN with a sign": 0xFF80_0001, "last NaN": 0x7FFF_FFFF, "all ones": 0xFFFF_FFFF,
+           "-0.0001": float_bits(-1e-4), "-0.0005": float_bits(-5e-4), "-0.0006": float_bits(-6e-4), "-1": float_bits(-1.0),
+           "-30": float_bits(-30.0)}
 # Halves of a millimetre that a float has exactly: the odd multiples of 62.5 mm, with the floats around them.
 EXACT_HALVES = [bits for sixteenths in range(1, 480, 2) for bits in bits_near(sixteenths / 16)]
 NEAR_30_METRES = [*bits_near(29.9995, 3, 3), float_bits(29.9999), *bits_near(30.0, 2, 2), float_bits(30.0004), *bits_near(30.0005, 12, 12),

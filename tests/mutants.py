@@ -7,6 +7,8 @@ For each mutant the checks of judge.py that caught it are printed with the count
 "mutants: N tried, F not caught". Each is tried on some dozens of generated.py's quick inputs; on the slow ones (10,000 steps, 100,000
 records) only where these do not catch it, and on the other small ones last.
 
+Some are tried once more without the calculator: by the same readings in records of either version, whose outputs must be equal.
+
 Wrong libraries in the place of the C interface follow, which the comparison of calls.py must catch; with --libraries these alone. Some are
 then tried once more by what neighbouring calls say against each other, without the calculator. The last of them are in C:
 bench/plain_calls.c, which must pass as it stands, with one place changed; these wrong ones touch memory that is not theirs (needs gcc).
@@ -17,17 +19,22 @@ import subprocess
 import sys
 from array import array
 from dataclasses import replace
+from fractions import Fraction
+from math import ceil, floor
+from struct import pack, unpack
 
 import paper
 import paper_figures
 from calculator import whole_numbers
+from calculator.encode import big_endian
+from calculator.floats import GAP_BITS, HALF
 from calculator.program import Program, run
 from calculator.whole_numbers import (BASIN, CEILING, DAM, GAP, HIGHEST_RAIN, HIGHEST_STAGE, REACH, SCALE, Figures, Rating, Refused, Rules,
                                       State, decode_table, number_at, stage_in_range, under_ceiling)
 from call_cases import Watched, cases
 from calls import ROOT, Library, built_driver, compare, made_calls
 from inputs import SHAPES, inputs, random_for
-from judge import judge
+from judge import judge, version_complaint
 
 SEED = 1
 ENOUGH = 25  # inputs that catch a mutant; no more are tried then (of the slow ones, after one)
@@ -595,6 +602,336 @@ class NewSumJudged(SumJudged):
         return total(new, self.figure)
 
 
+# ---- Wrong floats ------------------------------------------------------------------------------------------------------------------------
+
+
+class WrongFloats(Rules):
+    """Rules that read records of version 2 wrongly; inputs with floats are asked about them first."""
+
+
+def in_32_bits(number):
+    """The 32-bit float nearest to a number that a 64-bit one holds exactly, as a fraction; none where it is too large."""
+    try:
+        return Fraction(*unpack(">f", pack(">f", float(number))))
+    except OverflowError:
+        return Fraction(HIGHEST_STAGE + 1)
+
+
+class ProductIn32Bits(WrongFloats):
+    """The float times 1,000 as a 32-bit float, which is then rounded."""
+
+    def millimetres(self, metres):
+        return floor(in_32_bits(1_000 * metres) + HALF)
+
+
+class SumIn32Bits(WrongFloats):
+    """The product and the half added to it as 32-bit floats, cut off."""
+
+    def millimetres(self, metres):
+        return floor(in_32_bits(in_32_bits(1_000 * metres) + HALF))
+
+
+class MillimetresCutOff(WrongFloats):
+    def millimetres(self, metres):
+        return floor(1_000 * metres)
+
+
+class MillimetresRoundedUp(WrongFloats):
+    def millimetres(self, metres):
+        return ceil(1_000 * metres)
+
+
+class HalvesToEven(WrongFloats):
+    def millimetres(self, metres):
+        return round(1_000 * metres)
+
+
+class HalvesDown(WrongFloats):
+    def millimetres(self, metres):
+        return ceil(1_000 * metres - HALF)
+
+
+class FloatsInMillimetres(WrongFloats):
+    """The float is taken for millimetres."""
+
+    def millimetres(self, metres):
+        return super().millimetres(metres / 1_000)
+
+
+class EveryNanAGap(WrongFloats):
+    def is_gap(self, bits):
+        return bits & 0x7FFF_FFFF > 0x7F80_0000
+
+
+class QuietNansAGap(WrongFloats):
+    """Every quiet NaN without a sign."""
+
+    def is_gap(self, bits):
+        return bits >> 22 == GAP_BITS >> 22
+
+
+class GapWithSignTaken(WrongFloats):
+    def is_gap(self, bits):
+        return bits & 0x7FFF_FFFF == GAP_BITS
+
+
+class FloatGapRefused(WrongFloats):
+    def is_gap(self, bits):
+        return False
+
+
+class FloatGapAsZero(WrongFloats):
+    """A gap is a reading of 0."""
+
+    def stages(self, version, sent):
+        return [0 if version == 2 and stage == GAP else stage for stage in super().stages(version, sent)]
+
+
+class StageGapAsFloat(WrongFloats):
+    """The bits of 65535 are a gap too."""
+
+    def is_gap(self, bits):
+        return bits in (GAP_BITS, GAP)
+
+
+class NegativesThatRoundToZero(WrongFloats):
+    """A float below zero is refused only where it is so once rounded."""
+
+    def float_in_range(self, bits):
+        metres = self.metres(bits)
+        return self.is_gap(bits) or (metres is not None and 0 <= self.millimetres(metres) <= HIGHEST_STAGE)
+
+
+class NegativesAsZero(WrongFloats):
+    def metres(self, bits):
+        metres = super().metres(bits)
+        return None if metres is None else max(metres, 0)
+
+
+class SignLeftOut(WrongFloats):
+    def metres(self, bits):
+        return super().metres(bits & 0x7FFF_FFFF)
+
+
+class MinusZeroRefused(WrongFloats):
+    def float_in_range(self, bits):
+        return bits != 0x8000_0000 and super().float_in_range(bits)
+
+
+class InfinityAsHighest(WrongFloats):
+    def metres(self, bits):
+        return 30 if bits == 0x7F80_0000 else super().metres(bits)
+
+
+class LimitBeforeRounding(WrongFloats):
+    def float_in_range(self, bits):
+        return super().float_in_range(bits) and (self.is_gap(bits) or self.metres(bits) <= 30)
+
+
+class LimitOneHigher(WrongFloats):
+    """30,001 mm is taken."""
+
+    def float_in_range(self, bits):
+        metres = self.metres(bits)
+        return super().float_in_range(bits) or (metres is not None and self.millimetres(metres) == HIGHEST_STAGE + 1)
+
+
+class LimitOneLower(WrongFloats):
+    """30,000 mm is refused."""
+
+    def float_in_range(self, bits):
+        return super().float_in_range(bits) and (self.is_gap(bits) or self.millimetres(self.metres(bits)) < HIGHEST_STAGE)
+
+
+class ExponentOneHigh(WrongFloats):
+    factor = 2
+
+    def metres(self, bits):
+        metres = super().metres(bits)
+        return None if metres is None else metres * self.factor
+
+
+class ExponentOneLow(ExponentOneHigh):
+    factor = HALF
+
+
+class LeadingOneLeftOut(WrongFloats):
+    def metres(self, bits):
+        metres, exponent = super().metres(bits), bits >> 23 & 0xFF
+        return metres if metres is None or exponent == 0 else (bits & 0x7F_FFFF) * Fraction(2) ** (exponent - 150) * (-1) ** (bits >> 31)
+
+
+class SubnormalsRefused(WrongFloats):
+    def float_in_range(self, bits):
+        return super().float_in_range(bits) and not 0 < bits < 0x80_0000
+
+
+class SubnormalsUnscaled(WrongFloats):
+    """An exponent of 0 read as if it were that of 1 m."""
+
+    def metres(self, bits):
+        return Fraction(bits, 2 ** 23) if bits < 0x80_0000 else super().metres(bits)
+
+
+class FloatsFromLastByte(WrongFloats):
+    """Floats in little-endian order."""
+
+    def fields(self, table, record):
+        rains, releases, sent = super().fields(table, record)
+        return rains, releases, [int.from_bytes(bits.to_bytes(4, "little"), "big") for bits in sent] if record[2] == 2 else sent
+
+
+class FloatHalvesChangedOver(WrongFloats):
+    def fields(self, table, record):
+        rains, releases, sent = super().fields(table, record)
+        return rains, releases, [bits << 16 & 0xFFFF_0000 | bits >> 16 for bits in sent] if record[2] == 2 else sent
+
+
+class FloatsBeforeReleases(WrongFloats):
+    def fields(self, table, record):
+        rains, releases, sent = super().fields(table, record)
+        if record[2] == 2:
+            both = [*releases, *sent]
+            releases, sent = both[len(sent):], both[:len(sent)]
+        return rains, releases, sent
+
+
+class FourBytesUnlessVersionOne(WrongFloats):
+    """Rule 10 counts 4 bytes a gauge for every version but 1."""
+
+    def reading_bytes(self, version):
+        return 2 if version == 1 else 4
+
+
+class TwoBytesForVersionTwo(WrongFloats):
+    def reading_bytes(self, version):
+        return 2
+
+
+class EitherLength(WrongFloats):
+    """Rule 10 takes the length of either version for version 1."""
+
+    def readings(self, table, record):
+        longer = len(record) > 2 and record[2] == 1 and len(record) == 3 + 2 * table.basins + 4 * table.dams + 4 * len(table.gauges)
+        if longer and number_at(record, 0, 2) == len(record) - 2:
+            record = big_endian(len(record) - 2 - 2 * len(table.gauges), 2) + record[2:len(record) - 2 * len(table.gauges)]
+        return super().readings(table, record)
+
+
+class VersionTwoRefused(WrongFloats):
+    record_versions = (1,)
+
+
+class VersionThreeTaken(WrongFloats):
+    """As version 1."""
+    record_versions = (1, 2, 3)
+
+    def stages(self, version, sent):
+        return super().stages(2 if version == 2 else 1, sent)
+
+
+class ThirteenForEighteen(WrongFloats):
+    """13 applied to version 2."""
+
+    def stages(self, version, sent):
+        try:
+            return super().stages(version, sent)
+        except Refused:
+            raise Refused(13)
+
+
+class ThirteenForHighFloats(WrongFloats):
+    """13 applied to the millimetres of version 2; 18 to what has none."""
+
+    def stages(self, version, sent):
+        try:
+            return super().stages(version, sent)
+        except Refused as refused:
+            known = [self.metres(bits) for bits in sent if version == 2 and not self.is_gap(bits)]
+            high = [metres for metres in known if metres is not None and self.millimetres(metres) > HIGHEST_STAGE]
+            raise Refused(13 if high else refused.number)
+
+
+class ThirteenOnHalves(WrongFloats):
+    """13 applied to the bytes of version 2 as if they were stages."""
+
+    def stages(self, version, sent):
+        if version == 2 and not all(stage_in_range(half) for bits in sent for half in (bits >> 16, bits & 0xFFFF)):
+            raise Refused(13)
+        return super().stages(version, sent)
+
+
+class EighteenForThirteen(WrongFloats):
+    """18 applied to version 1."""
+
+    def stages(self, version, sent):
+        try:
+            return super().stages(version, sent)
+        except Refused:
+            raise Refused(18)
+
+
+class EighteenOnPairs(WrongFloats):
+    """18 applied to the bytes of version 1 as if they were floats."""
+
+    def stages(self, version, sent):
+        right = super().stages(version, sent)
+        if version == 1 and not all(self.float_in_range(high << 16 | low) for high, low in zip(sent[::2], sent[1::2])):
+            raise Refused(18)
+        return right
+
+
+class EighteenAfterFourteen(WrongFloats):
+    def refusal_beside(self, table, record):
+        """14 where some gauge has it, whatever the others have."""
+        *_, sent = self.fields(table, record)
+        for gauge, bits in zip(table.gauges, sent):
+            if self.float_in_range(bits) and not self.is_gap(bits) and self.look(gauge, self.millimetres(self.metres(bits))).refusal:
+                return 14
+        return 18
+
+    def readings(self, table, record):
+        try:
+            return super().readings(table, record)
+        except Refused as refused:
+            raise Refused(self.refusal_beside(table, record) if refused.number == 18 else refused.number)
+
+
+class EighteenWithFourteen(EighteenAfterFourteen):
+    """Gauge after gauge its 18, then its 14."""
+
+    def refusal_beside(self, table, record):
+        *_, sent = self.fields(table, record)
+        for gauge, bits in zip(table.gauges, sent):
+            if not self.float_in_range(bits):
+                return 18
+            if not self.is_gap(bits) and self.look(gauge, self.millimetres(self.metres(bits))).refusal:
+                return 14
+
+
+class EighteenBeforeSeventeen(WrongFloats):
+    passed = (17,)
+
+    def readings(self, table, record):
+        try:
+            return super().readings(table, record)
+        except Refused as refused:
+            if refused.number in self.passed and record[2] == 2 and not all(map(self.float_in_range, self.fields(table, record)[2])):
+                raise Refused(18)
+            raise
+
+
+class EighteenBeforeTwelve(EighteenBeforeSeventeen):
+    passed = (12, 17)
+
+
+class EighteenAsGap(WrongFloats):
+    """A float that 18 refuses is a gap."""
+
+    def stages(self, version, sent):
+        return super().stages(version, [GAP_BITS if version == 2 and not self.float_in_range(bits) else bits for bits in sent])
+
+
 # ---- Wrong refusals --------------------------------------------------------------------------------------------------------------------
 
 
@@ -632,8 +969,7 @@ class SeventeenAfterThirteen(Rules):
         try:
             return super().readings(table, record)
         except Refused as refused:
-            *_, stages = whole_numbers.record_fields(table, record)
-            if refused.number == 17 and any(stage > HIGHEST_STAGE and stage != GAP for stage in stages):
+            if refused.number == 17 and not all(map(stage_in_range, whole_numbers.record_fields(table, record)[2])):
                 raise Refused(13)
             raise
 
@@ -748,8 +1084,14 @@ class TenGoesOn(Program):
 
 
 class SeventeenEndsRun(Program):
+    ends = b" refused 17\n"
+
     def run(self, data):
-        return b"".join(super().run(data).partition(b" refused 17\n")[:2])
+        return b"".join(super().run(data).partition(self.ends)[:2])
+
+
+class EighteenEndsRun(SeventeenEndsRun):
+    ends = b" refused 18\n"
 
 
 class ForecastRefusalDropsStep(Program):
@@ -882,6 +1224,16 @@ class RefusedStartBegun(Library):
         reply = super().refused(call, number)
         if call.entry == "start" and number == 7:
             reply.numbers[:2] = array("Q", (call.table[8], 0))
+        return reply
+
+
+class RefusedFloatCounted(Library):
+    """The step count of a step that 18 refuses goes up."""
+
+    def refused(self, call, number):
+        reply = super().refused(call, number)
+        if call.entry == "step" and number == 18:
+            reply.numbers[1] += 1
         return reply
 
 
@@ -1152,6 +1504,110 @@ class SevenForNoGauge(Rules):
         return right
 
 
+# ---- Wrong displays ----------------------------------------------------------------------------------------------------------------------
+
+
+def double_bits(number):
+    return int.from_bytes(pack(">d", number), "big")
+
+
+class WrongDisplay(Rules):
+    """Rules by which a display alone is wrong."""
+
+
+class DisplayMultiplied(WrongDisplay):
+    def shown(self, count):
+        return double_bits(count * 0.000001)
+
+
+class DisplayDividedTwice(WrongDisplay):
+    def shown(self, count):
+        return double_bits(count / 1_000 / 1_000)
+
+
+class DisplayIn32Bits(WrongDisplay):
+    """The quotient as a 32-bit float."""
+
+    def shown(self, count):
+        return double_bits(float(in_32_bits(count / 1_000_000)))
+
+
+class DisplayOfCountIn32Bits(WrongDisplay):
+    """The count as a 32-bit float, divided in 64 bits."""
+
+    def shown(self, count):
+        return double_bits(float(in_32_bits(count)) / 1_000_000)
+
+
+class DisplayCutOff(WrongDisplay):
+    """The quotient rounded towards 0."""
+
+    def shown(self, count):
+        bits = super().shown(count)
+        return bits - (Fraction(*unpack(">d", bits.to_bytes(8, "big"))) > Fraction(count, 1_000_000))
+
+
+class DisplayInLitres(WrongDisplay):
+    def shown(self, count):
+        return double_bits(count / 1_000)
+
+
+class DisplayChangedOver(WrongDisplay):
+    """The margin in the place of the discharge, and the other way round."""
+
+    def show(self, discharge, margin):
+        return super().show(margin, discharge)
+
+
+class DisplayNotJudged(WrongDisplay):
+    def show(self, discharge, margin):
+        return self.shown(discharge), self.shown(margin)
+
+
+class DisplayDischargeJudged(WrongDisplay):
+    """The ceiling is judged of the discharge alone."""
+
+    def show(self, discharge, margin):
+        return super().show(discharge, 0)[0], self.shown(margin)
+
+
+class DisplayMarginJudged(WrongDisplay):
+    def show(self, discharge, margin):
+        return self.shown(discharge), super().show(0, margin)[1]
+
+
+class DisplayLowHalvesJudged(WrongDisplay):
+    def show(self, discharge, margin):
+        return super().show(discharge % 2 ** 32, margin % 2 ** 32)
+
+
+class DisplayOfCeilingRefused(WrongDisplay):
+    def show(self, discharge, margin):
+        return super().show(discharge + (discharge == CEILING), margin + (margin == CEILING))
+
+
+class DisplayThoughRefused(Library):
+    """A refused display shows its counts all the same."""
+
+    def refused(self, call, number):
+        reply = super().refused(call, number)
+        return replace(reply, numbers=array("Q", map(self.rules.shown, call.asked))) if call.entry == "show" else reply
+
+
+class DisplayRefusedAsMinusZero(Library):
+    def refused(self, call, number):
+        reply = super().refused(call, number)
+        return replace(reply, numbers=array("Q", [2 ** 63] * 2)) if call.entry == "show" else reply
+
+
+class ShownBy(Library):
+    """A library by rules with a wrong display; only the cases of the display are asked about it."""
+
+
+class FloatsBy(Library):
+    """A library by rules with wrong floats; only the cases of floats are asked about it."""
+
+
 class InflowsBy(Library):
     """A library by rules with wrong inflows; only the cases of the mean inflow are asked about it."""
 
@@ -1269,12 +1725,16 @@ class FifteenBeforeFourteen(Rules):
             raise
 
 
+class FifteenBeforeEighteen(FifteenBeforeFourteen):
+    passed = (18, 14)
+
+
 class FifteenBeforeSeventeen(FifteenBeforeFourteen):
-    passed = (17, 13, 14)
+    passed = (17, 13, 18, 14)
 
 
 class FifteenBeforeTen(FifteenBeforeFourteen):
-    passed = (10, 11, 12, 17, 13, 14)
+    passed = (10, 11, 12, 17, 13, 18, 14)
 
 
 class FifteenBeforeNine(FifteenBeforeFourteen):
@@ -1470,22 +1930,38 @@ WRONG_INFLOWS = (UncorrectedInflow, SumOfNewOutflows, OldForNew, ElementsHalvedO
                  OwnOldForThoseAbove, UncorrectedOldOutflow, NewForOld, NewForOldInSteps, NewForOldAtLeads, NewForOldAtLeadOne,
                  StateForOldAtLeads, DamNewReleaseAsOld, DamFirstDischargeAsOld, DamNothingAsOld, DamOldMarginLeftOut, DamOldMarginAtLeads,
                  SumJudged, SumOfMarginsJudged, OldSumJudged, NewSumJudged)
+# And of wrong floats.
+WRONG_FLOATS = (ProductIn32Bits, SumIn32Bits, MillimetresCutOff, HalvesToEven, HalvesDown, EveryNanAGap, QuietNansAGap, GapWithSignTaken,
+                FloatGapRefused, FloatGapAsZero, NegativesThatRoundToZero, SignLeftOut, MinusZeroRefused, InfinityAsHighest,
+                LimitBeforeRounding, LimitOneHigher, LimitOneLower, ExponentOneHigh, LeadingOneLeftOut, SubnormalsRefused, FloatsFromLastByte,
+                FloatsBeforeReleases, FourBytesUnlessVersionOne, TwoBytesForVersionTwo, EitherLength, VersionTwoRefused, VersionThreeTaken,
+                ThirteenForEighteen, ThirteenForHighFloats, ThirteenOnHalves, EighteenForThirteen, EighteenAfterFourteen,
+                EighteenWithFourteen, EighteenBeforeSeventeen, EighteenAsGap)
+# Of these, what the same readings in both versions show without the calculator.
+APART_BY_VERSION = (MillimetresCutOff, FloatGapAsZero, FloatsInMillimetres, ExponentOneHigh, LeadingOneLeftOut, FloatsFromLastByte,
+                    FloatsBeforeReleases, VersionTwoRefused)
+WRONG_DISPLAYS = (DisplayMultiplied, DisplayDividedTwice, DisplayIn32Bits, DisplayOfCountIn32Bits, DisplayCutOff, DisplayInLitres,
+                  DisplayChangedOver, DisplayNotJudged, DisplayDischargeJudged, DisplayMarginJudged, DisplayLowHalvesJudged,
+                  DisplayOfCeilingRefused)
 # Rules by which trials alone are worked out: what only they can have wrong, and wrong steps.
-WRONG_TRIALS = (FifteenAfterSixteen, FifteenBeforeFourteen, FifteenBeforeSeventeen, FifteenBeforeTen, FifteenBeforeNine, FifteenBeforeEight,
-                FifteenBeforeTable, NineNotGiven, FiguresBeforeStep, FiguresOfLeadOne, FiguresBeforeCorrection, FiguresOnePlaceEarly,
-                ReadingOnElementBefore, ReadingOnElementAfter, ReadingOnElementsAbove, DamPassesVarianceOn)
+WRONG_TRIALS = (FifteenAfterSixteen, FifteenBeforeFourteen, FifteenBeforeEighteen, FifteenBeforeSeventeen, FifteenBeforeTen,
+                FifteenBeforeNine, FifteenBeforeEight, FifteenBeforeTable, NineNotGiven, FiguresBeforeStep, FiguresOfLeadOne,
+                FiguresBeforeCorrection, FiguresOnePlaceEarly, ReadingOnElementBefore, ReadingOnElementAfter, ReadingOnElementsAbove,
+                DamPassesVarianceOn)
 WRONG_STEPS = (ReadingsIgnored, ReadingsIgnoredByZeroGain, ReadingTakenWhole, CorrectionVarianceKept, GainMarginTwo, GapAsStage65535,
                GapAsStageZero, UncorrectedInflow, VarianceWeightNotSquared, SystemNoiseLeftOut, NextPieceAtTop, LastReadingForAll,
                SumOfNewOutflows, OldForNew, NewForOldInSteps, DamNewReleaseAsOld, DamOldMarginLeftOut, NoMarginWhereNoneDrains, SumJudged,
                DamLetsInflowThrough, OldRelease, LastReleaseForAll, DamInflowJudged, TwelveForThirteen, SeventeenAfterThirteen,
                SeventeenBeforeTwelve, NegativeDepthSquared, OnlyValuesUnderCeiling, CeilingTakesOneMore, NineThousandSteps,
-               ElevenThousandSteps, LooksBeyond, LooksAtReachRains, LooksAtDamRains, LooksNotAtLastPlace, LowHalves)
+               ElevenThousandSteps, LooksBeyond, LooksAtReachRains, LooksAtDamRains, LooksNotAtLastPlace, LowHalves, ProductIn32Bits,
+               HalvesDown, EveryNanAGap, FloatGapAsZero, NegativesThatRoundToZero, LimitOneHigher, ThirteenForEighteen,
+               EighteenAfterFourteen, EighteenBeforeSeventeen)
 # Of these, readings that change what their gauge's water does not reach.
 LEAKS = (ReadingOnElementBefore, ReadingOnElementAfter, ReadingOnElementsAbove, DamPassesVarianceOn, LastReadingForAll, DamLetsInflowThrough)
 # DamOldMarginLeftOut and the next: in a run a dam's margin is 0.
-NO_PROGRAMS = (Rules, Program, WrongAnswer, WrongInflow, WrongLook, Watched, LooksNotAt, CeilingOf, DamOldMarginLeftOut,
-               DamOldMarginAtLeads, *ONLY_LIBRARIES, *WRONG_TRIALS)
-NO_LIBRARIES = (Library, InflowsBy, WrongTrial, TrialsBy)
+NO_PROGRAMS = (Rules, Program, WrongAnswer, WrongInflow, WrongFloats, WrongLook, WrongDisplay, Watched, LooksNotAt, CeilingOf,
+               DamOldMarginLeftOut, DamOldMarginAtLeads, *ONLY_LIBRARIES, *WRONG_TRIALS, *WRONG_DISPLAYS)
+NO_LIBRARIES = (Library, InflowsBy, FloatsBy, ShownBy, WrongTrial, TrialsBy)
 
 
 def libraries():
@@ -1498,6 +1974,10 @@ def libraries():
         yield f"{wrong.__name__} in calls", Library(wrong())
     for wrong in WRONG_INFLOWS:
         yield f"{wrong.__name__} in calls", InflowsBy(wrong())
+    for wrong in WRONG_FLOATS:
+        yield f"{wrong.__name__} in calls", FloatsBy(wrong())
+    for wrong in WRONG_DISPLAYS:
+        yield wrong.__name__, ShownBy(wrong())
     for wrong in (*WRONG_TRIALS, *WRONG_STEPS):
         yield f"{wrong.__name__} in trials", TrialsBy(wrong())
     for number in range(7):
@@ -1541,7 +2021,7 @@ WRONG_IN_C = {
                                                  "i <= t->count; i++, e += ELEMENT_BYTES) {\n        const Figures *f"),
     "rule 1 reads ten bytes of any table": ("if (size < HEADER || be4(table) != size - 4) return 1;",
                                             "if (table[9] > 255 || be4(table) != size - 4 || size < HEADER) return 1;"),
-    "rule 10 reads two bytes of any record": ("if (size < 3 || be2(record) != size - 2 ||", "if (be2(record) != size - 2 || size < 3 ||"),
+    "rule 10 reads two bytes of any record": ("if (size < 3 || be2(record) != size - 2)", "if (be2(record) != size - 2 || size < 3)"),
     "a step's space is kept from call to call": (SPACE + JUDGED + "    if (refusal) return refusal;\n",
                                                  "    static" + SPACE + JUDGED + "    if (refusal) return refusal;\n",
                                                  "    memset(space, 0, sizeof *space * (t->count + 1)); /*", "    /*"),
@@ -1581,6 +2061,7 @@ WRONG_IN_C = {
     "a trial writes into its table what stands there": (TRIED, TRIED + "    *(volatile u8 *)table = table[0];\n"),
     "a trial judges 15 after 16": (TRIAL_NEED + TRIAL_ROOM, TRIAL_NEED, TRIAL_WORKED, TRIAL_WORKED + TRIAL_ROOM),
     "a trial judges 15 before 14": (TRIAL_JUDGED, f"    if (refusal == 14 && {TOO_SHORT}) refusal = 15;\n" + TRIAL_JUDGED),
+    "a trial judges 15 before 18": (TRIAL_JUDGED, f"    if (refusal == 18 && {TOO_SHORT}) refusal = 15;\n" + TRIAL_JUDGED),
     "a trial judges 15 before 9": (TRIAL_JUDGED, f"    if (refusal >= 9 && {TOO_SHORT}) refusal = 15;\n" + TRIAL_JUDGED),
     "a trial judges 15 before 8": (TRIAL_JUDGED, f"    if (refusal >= 8 && {TOO_SHORT}) refusal = 15;\n" + TRIAL_JUDGED),
     "a trial judges 15 before its table": (TRIAL_JUDGED, "    if (table_bytes > 8 && numbers_lent < 4u * table[8]) refusal = 15;\n"
@@ -1652,7 +2133,86 @@ WRONG_INFLOWS_IN_C = {
                                                       "    Figures old = dam_figures(own[0].discharge, 0), held ="),
     "a lead of a dam keeps the state's margin": ("        old = held;\n", ""),
 }
-WRONG_IN_C |= WRONG_INFLOWS_IN_C
+HIGHEST, FITS = "#define HIGHEST_FLOAT 0x41F00106u\n", "return bits <= HIGHEST_FLOAT || bits == FLOAT_GAP || bits == MINUS_ZERO;"
+IN_MILLIMETRES = "    return (u32)((thousandfold + (1ull << (shift - 1))) >> shift);\n"
+AS_FLOAT = "    float metres;\n    memcpy(&metres, &bits, 4);\n"
+FLOAT_READ, FLOAT_JUDGED = "        u32 bits = be4(sent + 4 * k);\n", "        if (!float_fits(bits)) return 18;\n"
+GAP_PASSED, ALL_READ = "        if (stages[k] == GAP) continue;\n", "    readings->element = 0;\n"
+COUNTED, VERSIONS = "(version == 2 ? 4 : 2) * t->gauge_count) return 10;\n", "    if (version != 1 && version != 2) return 11;\n"
+STEP_REFUSED = "    if (refusal) return refusal;\n    weigh(&t, weights);\n"
+# These are tried by the cases of floats alone.
+WRONG_FLOATS_IN_C = {
+    "a float is multiplied in 32 bits": (IN_MILLIMETRES, AS_FLOAT + "    return (u32)(metres * 1000.0f + 0.5f);\n"),
+    "a float is multiplied in 32 bits and rounded": (IN_MILLIMETRES, AS_FLOAT + "    return (u32)__builtin_roundf(metres * 1000.0f);\n"),
+    "a float is multiplied and cut off": (IN_MILLIMETRES, AS_FLOAT + "    return (u32)(metres * 1000.0);\n"),
+    "a float is rounded to the nearest even": (IN_MILLIMETRES, IN_MILLIMETRES.replace("(1ull << (shift - 1))",
+                                                                                     "(1ull << (shift - 1)) - 1 + (thousandfold >> shift & 1)")),
+    "half a millimetre is rounded down": (IN_MILLIMETRES, IN_MILLIMETRES.replace("(shift - 1))", "(shift - 1)) - 1")),
+    "a float's thousandfold in 32 bits": ("    u64 thousandfold =", "    u32 thousandfold ="),
+    "a float without its leading 1": ("((bits & 0x7FFFFF) | 0x800000)", "(bits & 0x7FFFFF)"),
+    "a float's exponent one lower": ("    u32 shift = 150 -", "    u32 shift = 151 -"),
+    "a small float is shifted too far": ("    if (shift > 36) shift = 36;\n", ""),
+    "a small float is shifted too little": ("    if (shift > 36) shift = 36;\n", "    if (shift > 34) shift = 34;\n"),
+    "every NaN is a gap": (FITS, FITS.replace("bits == FLOAT_GAP", "(bits & 0x7FFFFFFF) > 0x7F800000"),
+                           "return bits == FLOAT_GAP ? GAP : 0;", "return bits == MINUS_ZERO ? 0 : GAP;"),
+    "every NaN is 0": (FITS, FITS.replace("bits == FLOAT_GAP", "(bits & 0x7FFFFFFF) > 0x7F800000")),
+    "a gap in floats is refused": (FITS, FITS.replace("bits == FLOAT_GAP || ", "")),
+    "a gap in floats is 0": ("return bits == FLOAT_GAP ? GAP : 0;", "return 0;"),
+    "floats below 0 that round to it are taken": (FITS, FITS.replace("bits == MINUS_ZERO", "(bits >= MINUS_ZERO && bits <= 0xBA03126Eu)")),
+    "minus zero is refused": (FITS, FITS.replace(" || bits == MINUS_ZERO", "")),
+    "minus zero is a gap": ("return bits == FLOAT_GAP ? GAP : 0;", "return GAP;"),
+    "floats above 30 m are refused": (HIGHEST, HIGHEST.replace("0106", "0000")),
+    "30,001 mm is taken in floats": (HIGHEST, HIGHEST.replace("0106", "0312")),
+    "one float too many is taken": (HIGHEST, HIGHEST.replace("0106", "0107")),
+    "one float too few is taken": (HIGHEST, HIGHEST.replace("0106", "0105")),
+    "infinity is the highest stage": (FITS, FITS.replace("return", "return bits == 0x7F800000u ||"),
+                                      "    u32 shift = 150 -", "    if (bits == 0x7F800000u) return HIGHEST_STAGE;\n    u32 shift = 150 -"),
+    "13 is given for floats": (FLOAT_JUDGED, FLOAT_JUDGED.replace("18", "13")),
+    "18 is given for stages": ("!= GAP) return 13;\n        }", "!= GAP) return 18;\n        }"),
+    "18 is judged with 14, gauge by gauge": (FLOAT_JUDGED, "        if (!float_fits(bits)) {\n            stages[k] = GAP + 1;\n"
+                                             "            continue;\n        }\n", GAP_PASSED, GAP_PASSED
+                                             + "        if (stages[k] > GAP) return 18;\n"),
+    "18 is judged after 14": (FLOAT_JUDGED, "        if (!float_fits(bits)) {\n            stages[k] = GAP + 1;\n            continue;\n"
+                              "        }\n", GAP_PASSED, GAP_PASSED.replace("==", ">="), ALL_READ,
+                              "    for (size_t k = 0; k < t->gauge_count; k++)\n        if (stages[k] > GAP) return 18;\n" + ALL_READ),
+    "floats are read from the last byte on": (FLOAT_READ, FLOAT_READ.replace("be4(sent + 4 * k)", "__builtin_bswap32(be4(sent + 4 * k))")),
+    "floats are read where the releases stand": ("version, release + 4 * t->dam_count, stages);", "version, release, stages);"),
+    "floats are read two bytes apart": (FLOAT_READ, FLOAT_READ.replace("4 * k", "2 * k")),
+    "an unknown version has 4 bytes a gauge": (COUNTED, COUNTED.replace("version == 2 ? 4 : 2", "version == 1 ? 2 : 4")),
+    "version 2 has 2 bytes a gauge": (COUNTED, COUNTED.replace("(version == 2 ? 4 : 2)", "2")),
+    "version 2 has either length": (COUNTED, COUNTED.replace(") return 10;", " && (version != 2 || size != 3 + 2 * t->basin_count + "
+                                                             "4 * t->dam_count + 2 * t->gauge_count)) return 10;")),
+    "version 2 is refused": (VERSIONS, VERSIONS.replace(" && version != 2", "")),
+    "version 3 is taken": (VERSIONS, VERSIONS.replace("version != 2", "version != 2 && version != 3")),
+    "a byte after the floats is read": (VERSIONS, VERSIONS + "    if (version == 2) (void)*(const volatile u8 *)(record + size);\n"),
+    "a step refused by 18 counts": (STEP_REFUSED, "    if (refusal == 18) state->steps++;\n" + STEP_REFUSED),
+}
+SHOWN, SHOW_JUDGED = "return (double)(int64_t)grains / 1000000.0;", "    if (discharge > CEILING || margin > CEILING) return "
+SHOW_REFUSED, SHOW_BOTH = "(river_shown){16, 0, 0};", "{0, in_cubic_metres(discharge), in_cubic_metres(margin)};"
+# These are tried by the cases of the display alone.
+WRONG_DISPLAYS_IN_C = {
+    "a display multiplies by 0.000001": (SHOWN, SHOWN.replace("/ 1000000.0", "* 0.000001")),
+    "a display divides twice by 1,000": (SHOWN, SHOWN.replace("1000000.0", "1000.0 / 1000.0")),
+    "a display divides in 32 bits": (SHOWN, "return (float)grains / 1000000.0f;"),
+    "a display has its counts in 32 bits": (SHOWN, SHOWN.replace("(double)", "(double)(float)")),
+    "a display has its counts as signed 32 bits": (SHOWN, SHOWN.replace("int64_t", "int32_t")),
+    "a display is in litres": (SHOWN, SHOWN.replace("1000000.0", "1000.0")),
+    "a display is cut off after a thousandth": (SHOWN, SHOWN.replace("(int64_t)grains / 1000000.0", "(int64_t)(grains / 1000) / 1000.0")),
+    "a display has its floats changed over": (SHOW_BOTH, "{0, in_cubic_metres(margin), in_cubic_metres(discharge)};"),
+    "a display shows its discharge twice": (SHOW_BOTH, SHOW_BOTH.replace("(margin)", "(discharge)")),
+    "a display does not judge its counts": (SHOW_JUDGED + SHOW_REFUSED, ""),
+    "a display does not judge its discharge": (SHOW_JUDGED, SHOW_JUDGED.replace("discharge > CEILING || ", "")),
+    "a display does not judge its margin": (SHOW_JUDGED, SHOW_JUDGED.replace(" || margin > CEILING", "")),
+    "a display judges both counts at once": (SHOW_JUDGED, SHOW_JUDGED.replace("||", "&&")),
+    "a display judges the sum of its counts": (SHOW_JUDGED, SHOW_JUDGED.replace("discharge > CEILING ||", "discharge + margin > CEILING ||")),
+    "a display refuses C": (SHOW_JUDGED, SHOW_JUDGED.replace("discharge >", "discharge >=")),
+    "a display judges low halves": (SHOW_JUDGED, SHOW_JUDGED.replace("discharge >", "(u32)discharge >")),
+    "a display is refused by another number": (SHOW_REFUSED, SHOW_REFUSED.replace("16", "17")),
+    "a refused display shows its discharge": (SHOW_REFUSED, SHOW_REFUSED.replace("16, 0,", "16, in_cubic_metres(discharge),")),
+    "a refused display shows its margin": (SHOW_REFUSED, SHOW_REFUSED.replace(" 0}", " in_cubic_metres(margin)}")),
+    "a refused display shows minus zero": (SHOW_REFUSED, SHOW_REFUSED.replace("16, 0,", "16, -0.0,")),
+}
+WRONG_IN_C |= WRONG_INFLOWS_IN_C | WRONG_FLOATS_IN_C | WRONG_DISPLAYS_IN_C
 
 
 def library_in_c(name, changes):
@@ -1676,8 +2236,9 @@ def caught_libraries():
     for number, case in enumerate(cases()):
         calls = list(case.build(random_for(SEED, number)))
         built.append((number + 1, replace(case, exact=False), calls, [right.reply(call) for call in calls]))
-    trials = [each for each in built if each[1].name.startswith("trial: ")]
-    inflows = [each for each in built if each[1].name.startswith("mean inflow: ")]
+    record_rules = tuple(f"rule {number}" for number in range(10, 19))
+    trials, inflows, floats, shows = ([each for each in built if each[1].name.startswith(begins)]
+                                      for begins in ("trial: ", "mean inflow: ", ("float: ", *record_rules), "show: "))
 
     def first_caught(reply_to, among, alone=False):
         """`alone`: by neighbouring calls alone, as if the calculator had the same mistake."""
@@ -1689,16 +2250,19 @@ def caught_libraries():
 
     def first_caught_in_c(name, changes):
         driver = built_driver(library_in_c(name, changes))
-        among = trials if name.startswith("a trial ") else inflows if name in WRONG_INFLOWS_IN_C else built
+        among = (trials if name.startswith("a trial ") else inflows if name in WRONG_INFLOWS_IN_C else floats if name in WRONG_FLOATS_IN_C
+                 else shows if name in WRONG_DISPLAYS_IN_C else built)
         replies = iter(made_calls(driver, [call for _, _, calls, _ in among for call in calls], starts=1))
         return first_caught(lambda _: next(replies), among)
 
     for name, wrong in libraries():
-        among = trials if isinstance(wrong, WrongTrial) else inflows if isinstance(wrong, InflowsBy) else built
-        yield name, *first_caught(wrong.reply, among)
+        asked = {InflowsBy: inflows, FloatsBy: floats, ShownBy: shows}.get(type(wrong), built)
+        yield name, *first_caught(wrong.reply, trials if isinstance(wrong, WrongTrial) else asked)
     yield "ReadingsIgnored in trials, by the step alone", *first_caught(TrialsBy(ReadingsIgnored()).reply, trials, alone=True)
     for wrong in LEAKS:
         yield f"{wrong.__name__}, by two trials alone", *first_caught(Library(wrong()).reply, trials, alone=True)
+    for wrong in APART_BY_VERSION:
+        yield f"{wrong.__name__}, by both versions alone", *first_caught(Library(wrong()).reply, floats, alone=True)
     if first_caught_in_c("as it stands", ())[0] != "NOT CAUGHT":
         sys.exit("bench/plain_calls.c as it stands is caught; see tests/calls.py")
     for name, changes in WRONG_IN_C.items():
@@ -1711,13 +2275,21 @@ def mutants():
             yield wrong.__name__, (wrong().run if issubclass(wrong, Program) else Program(wrong()).run)
 
 
+FLOATS_FIRST = {each.__name__ for each in list(globals().values()) if isinstance(each, type) and issubclass(each, WrongFloats)}
+
+
+FLOAT_FAMILIES = ("float", "rule 18", "order: ", "river_in_floats", "mixed_floats", "last place: 18")
+
+
 def chosen_inputs():
-    """Three groups: some dozens of all families, the slow ones, the other quick ones that are small."""
-    dozens, others, slow, seen = [], [], [], {}
+    """Four groups: those with floats, some dozens of all other families, the slow ones, the other quick ones that are small."""
+    floats, dozens, others, slow, seen = [], [], [], [], {}
     for number, given in enumerate(inputs()):
         family = given.family.split(" cut at")[0].split(" spoiled at")[0]
         seen[family] = seen.get(family, 0) + 1
-        if not given.fractions:
+        if given.family.startswith(FLOAT_FAMILIES):
+            floats.append((number, given))
+        elif not given.fractions:
             slow.append((number, given))
         elif family.startswith(("river of 64", "longest", "long river", "Yubetsu")):
             continue
@@ -1725,16 +2297,16 @@ def chosen_inputs():
             dozens.append((number, given))
         else:
             others.append((number, given))
-    return dozens, slow, others
+    return floats, dozens, slow, others
 
 
 def try_programs():
     """Prints a line for each wrong program; gives how many were tried and how many not caught."""
-    groups, expected = chosen_inputs(), {}
+    (floats, *groups), expected = chosen_inputs(), {}
     tried = missed = 0
     for name, wrong in mutants():
         caught, used = {}, 0
-        for group in groups:
+        for group in (floats, *groups) if name in FLOATS_FIRST else (*groups, floats):
             for number, given in group:
                 if caught.get("bytes", 0) >= (ENOUGH if given.fractions else 1):
                     break
@@ -1754,6 +2326,18 @@ def try_programs():
         words = ", ".join(f"{check} {count}" for check, count in sorted(caught.items())) if caught else "NOT CAUGHT"
         print(f"{name}: {words} (of {used} inputs)")
     return tried, missed
+
+
+def try_versions():
+    """Wrong programs that print another output for the same readings in version 1: how many were tried and how many not caught."""
+    pairs = [[build(random_for(SEED, number)) for build in (given.build, given.twin)] for number, given in enumerate(inputs()) if given.twin]
+    missed = 0
+    for wrong in APART_BY_VERSION:
+        program = Program(wrong())
+        caught = sum(bool(version_complaint(program.run(data), program.run(twin))) for data, twin in pairs)
+        missed += not caught
+        print(f"{wrong.__name__}, by both versions alone: {f'versions {caught}' if caught else 'NOT CAUGHT'} (of {len(pairs)} inputs)")
+    return len(APART_BY_VERSION), missed
 
 
 # Rules that change figures of the worked examples.
@@ -1791,10 +2375,8 @@ def try_papers():
 
 def main():
     chosen = sys.argv[1:]
-    tried, missed = (0, 0) if chosen else try_programs()
-    if "--libraries" not in chosen:
-        more, more_missed = try_papers()
-        tried, missed = tried + more, missed + more_missed
+    parts = ([] if chosen else [try_programs, try_versions]) + ([] if "--libraries" in chosen else [try_papers])
+    tried, missed = map(sum, zip((0, 0), *(part() for part in parts)))
     for name, caught, used in caught_libraries() if "--papers" not in chosen else ():
         tried, missed = tried + 1, missed + (caught == "NOT CAUGHT")
         print(f"library {name}: {caught} (case {used})")
