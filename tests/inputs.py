@@ -464,6 +464,7 @@ def float_orders():
     over = [with_element(0, area=400_000), with_element(2, area=400_000)]  # rains of 3,000 bring 16
     yield "10 and 18", edited([with_record(1, stages=(bad,))], float_river)
     yield "10 by version 3 and 18", edited([with_record(1, stages=(bad, bad), version=3, size=4)], float_river)
+    yield "10 by the length of the other version and 18", edited([with_record(1, stages=(bad, bad), version=1, size=4)], float_river)
     yield "12 and 18", edited([with_record(1, rains=(0, 3_001), stages=(bad, bad))], float_river)
     yield "17 and 18", edited([with_record(1, releases=(0, CEILING + 1), stages=(bad, gap))], float_river)
     yield "12, 17, 18, 14 and 16", edited([*over, with_record(1, rains=(3_000, 3_001), stages=(bad, deep), releases=(0, CEILING + 1))],

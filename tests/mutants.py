@@ -2143,7 +2143,7 @@ STEP_REFUSED = "    if (refusal) return refusal;\n    weigh(&t, weights);\n"
 # These are tried by the cases of floats alone.
 WRONG_FLOATS_IN_C = {
     "a float is multiplied in 32 bits": (IN_MILLIMETRES, AS_FLOAT + "    return (u32)(metres * 1000.0f + 0.5f);\n"),
-    "a float is multiplied in 32 bits and rounded": (IN_MILLIMETRES, AS_FLOAT + "    return (u32)__builtin_roundf(metres * 1000.0f);\n"),
+    "a float's product in 32 bits is rounded": (IN_MILLIMETRES, AS_FLOAT + "    return (u32)((double)(metres * 1000.0f) + 0.5);\n"),
     "a float is multiplied and cut off": (IN_MILLIMETRES, AS_FLOAT + "    return (u32)(metres * 1000.0);\n"),
     "a float is rounded to the nearest even": (IN_MILLIMETRES, IN_MILLIMETRES.replace("(1ull << (shift - 1))",
                                                                                      "(1ull << (shift - 1)) - 1 + (thousandfold >> shift & 1)")),
@@ -2275,7 +2275,8 @@ def mutants():
             yield wrong.__name__, (wrong().run if issubclass(wrong, Program) else Program(wrong()).run)
 
 
-FLOATS_FIRST = {each.__name__ for each in list(globals().values()) if isinstance(each, type) and issubclass(each, WrongFloats)}
+FLOATS_FIRST = {each.__name__ for each in list(globals().values())
+                if isinstance(each, type) and issubclass(each, (WrongFloats, EighteenEndsRun))}
 
 
 FLOAT_FAMILIES = ("float", "rule 18", "order: ", "river_in_floats", "mixed_floats", "last place: 18")
