@@ -784,10 +784,10 @@ def near_halves(every=1):
     return [bits for k in range(0, 30_000, every) for bits in bits_near((2 * k + 1) / 2_000)]
 
 
-def float_table(count=1, **rest):
+def float_table(count=1):
     """Reaches apart with a gauge on each that is all but believed, z being 4 h²: every millimetre shows."""
     return dict(T=60, L=1, elements=[reach(first_discharge=k, W=100_000_000) for k in range(count)],
-                gauges=[gauge(number, R=1, pieces=[(30_001, 4_000, 0)]) for number in range(1, count + 1)]) | rest
+                gauges=[gauge(number, R=1, pieces=[(30_001, 4_000, 0)]) for number in range(1, count + 1)])
 
 
 def float_rows(bits, count=16):
@@ -803,7 +803,7 @@ def at_each_gauge(patterns, count=16):
 
 
 def float_rivers():
-    """(name, table, records)."""
+    """(name, table, records): what floats stand for, where they stand in a record, and records of both versions."""
     yield "exact halves", float_table(16), float_rows(EXACT_HALVES)
     yield "near half a millimetre", float_table(16), float_rows(near_halves(37))
     yield "near 30 m", float_table(), float_rows(NEAR_30_METRES, 1)
@@ -812,7 +812,7 @@ def float_rivers():
     yield "byte order", float_table(), float_rows(BYTE_ORDERS, 1)
     yield "byte order at 16 gauges", float_table(16), at_each_gauge(BYTE_ORDERS * 2)
     yield "halves of 13", float_table(16), float_rows(HALVES_OF_THIRTEEN * 8)
-    # Pairs of stages of version 1 that are no floats of version 2: 2e32 and less, not a number, below 0.
+    # Pairs of stages of version 1 that 18 would refuse as floats: too high or not a number.
     pairs = (30_000, 0), (0x42C8, 0), (30_000, 30_000), (20_000, GAP), (GAP, 0), (GAP, GAP)
     yield "version 1 that 18 would refuse", float_table(2), [((), pair) for pair in pairs]
     yield "figures", float_table(), float_rows([float_bits(metres) for metres in (0.0005, 0.0015, 1.2345, 29.9995, 30.0)], 1)
