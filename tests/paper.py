@@ -6,7 +6,8 @@
   figures   every number of each example "### Worked example: NAME" of docs/METHOD.md and examples/yubetsu-2001/README.md is, in order, what
             paper_figures.py works out
   inputs    each block of hex there, given to the calculator and to the built program, prints the block of text after it
-  files     one of these blocks is examples/three-elements/river.hex, and what it prints expected.txt there
+  files     one of these blocks is examples/three-elements/river.hex, and what it prints expected.txt there; floats.hex there prints the
+            same, but for the number of the refusal
   lines     each printed line that these pages, README.md and examples/c/README.md show stands in an expected output
 
 --show prints the numbers of one example as the calculator has them, to write the page by. The program is target/bin/cabinet unless
@@ -24,8 +25,8 @@ from paper_figures import bytes_of_hex, sample_worked, worked
 ROOT = Path(__file__).resolve().parent.parent
 METHOD, SAMPLE = ROOT / "docs/METHOD.md", ROOT / "examples/yubetsu-2001"
 HEADING = "### Worked example: "
-# A word of four hex digits with a letter and a figure, or a number.
-NUMBER = re.compile(r"\b(?=[0-9A-F]{4}\b)(?=\w*[A-F])(?=\w*[0-9])\w+|\u2212?[0-9]+(?:,[0-9]{3}(?![0-9]))*(?:\.[0-9]+)?")
+# A word of four or eight hex digits with a letter and a figure, or a number.
+NUMBER = re.compile(r"\b(?=(?:[0-9A-F]{4}){1,2}\b)(?=\w*[A-F])(?=\w*[0-9])\w+|\u2212?[0-9]+(?:,[0-9]{3}(?![0-9]))*(?:\.[0-9]+)?")
 BLOCK = re.compile(r"^```(\w+)\n(.*?)^```$", re.MULTILINE | re.DOTALL)
 # Where printed lines are shown, their form, and the file in which each must stand (of METHOD.md its own blocks of output).
 FIGURE_LINE, OUTLET_LINE = r"^    ([0-9]+(?: [0-9]+){6})$", r"^    (step [0-9]+: .*)$"
@@ -96,12 +97,16 @@ def inputs(page, program):
     return count, complaints
 
 
-def files(page):
-    """The example river in the page and in its own files."""
-    complaints = []
+def files(page, program):
+    """The example river in the page and in its own files, and what it prints where its stages are floats."""
+    complaints, folder = [], ROOT / "examples/three-elements"
     for kind, name in (("hex", "river.hex"), ("text", "expected.txt")):
-        if (kind, (ROOT / "examples/three-elements" / name).read_text()) not in BLOCK.findall(page):
+        if (kind, (folder / name).read_text()) not in BLOCK.findall(page):
             complaints.append(f"METHOD.md does not have examples/three-elements/{name} as it stands")
+    floats, expected = bytes_of_hex((folder / "floats.hex").read_text()), (folder / "expected.txt").read_text()
+    for name, printed in (("calculator", run(floats)), ("program", program_output(program, floats))):
+        if printed.decode() != expected.replace("refused 13", "refused 18"):
+            complaints.append(f"for examples/three-elements/floats.hex the {name} prints something else than expected.txt with 18 for 13")
     return complaints
 
 
@@ -130,7 +135,7 @@ def main():
     more_figures, more_examples, wrong_sample = figures((SAMPLE / "README.md").read_text(), sample_worked())
     input_count, wrong_inputs = inputs(page, options.program)
     line_count, wrong_lines = lines()
-    complaints += wrong_sample + wrong_inputs + files(page) + wrong_lines
+    complaints += wrong_sample + wrong_inputs + files(page, options.program) + wrong_lines
     for complaint in complaints:
         print(f"FAILED {complaint}")
     print(f"paper: {figure_count + more_figures} figures in {example_count + more_examples} examples, {input_count} inputs, {line_count} "

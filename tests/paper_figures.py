@@ -9,15 +9,18 @@ import subprocess
 import sys
 from dataclasses import dataclass
 from fractions import Fraction
+from math import ulp
 from pathlib import Path
 from statistics import median
+from struct import pack, unpack
 
 from calculator import tried_figures
-from calculator.encode import record_bytes, table_bytes
+from calculator.encode import float_bits, record_bytes, table_bytes
+from calculator.floats import GAP_BITS
 from calculator.fractions_run import ExactNumbers, FractionsRun, exact_weight
 from calculator.program import Program, cut_records, cut_table, run
-from calculator.whole_numbers import (BASIN, CEILING, DAM, GAP, REACH, RULES, SCALE, Element, Figures, Piece, Rules, State, decode_table,
-                                      record_fields)
+from calculator.whole_numbers import (BASIN, CEILING, DAM, GAP, HIGHEST_STAGE, REACH, RULES, SCALE, Element, Figures, Piece, Refused, Rules,
+                                      State, decode_table, record_fields)
 
 ROOT = Path(__file__).resolve().parent.parent
 SAMPLE_FOLDER = ROOT / "examples/yubetsu-2001"
@@ -160,8 +163,8 @@ def added(figures, name):
 class ExampleRiver:
     """A river of examples/, whose third record is refused."""
 
-    def __init__(self, folder):
-        self.data = bytes_of_hex((ROOT / "examples" / folder / "river.hex").read_text())
+    def __init__(self, folder, name="river.hex"):
+        self.data = bytes_of_hex((ROOT / "examples" / folder / name).read_text())
         self.table = cut_table(self.data)
         self.records = list(cut_records(self.data, len(self.table)))
         self.elements = decode_table(self.table).elements
@@ -242,7 +245,7 @@ class ExampleRiver:
             of_dam(lambda figures: n(figures.variance_margin), lambda move: move.blends[3].margin_written()))
 
 
-THREE_ELEMENTS, ONE_DAM = ExampleRiver("three-elements"), ExampleRiver("one-dam")
+THREE_ELEMENTS, ONE_DAM, FLOATS = ExampleRiver("three-elements"), ExampleRiver("one-dam"), ExampleRiver("three-elements", "floats.hex")
 RIVER, TABLE, RECORDS, ELEMENTS = THREE_ELEMENTS.data, THREE_ELEMENTS.table, THREE_ELEMENTS.records, THREE_ELEMENTS.elements
 LENT = [0] * 48
 
@@ -344,6 +347,90 @@ def one_reading():
     {n(1_400)} − {n(-piece.b)} = {n(1_400 + piece.b)}; {n(piece.a)} × {n(1_400 + piece.b)}² / {n(1_000)} = {n(z)}, margin 1
     {reading_written(rules, before, z, 200, after, NUMBERS.corrected(*EXACT, Fraction(z), 200))}
     {n(after.discharge)} {n(after.margin)} {after.variance} {after.variance_margin}"""
+
+
+def taken(bits):
+    """What the calculator takes a float for: its stage, GAP, or the words of a refusal."""
+    try:
+        return RULES.stages(2, [bits])[0]
+    except Refused as refused:
+        return f"refused {refused.number}"
+
+
+def by_hand(bits):
+    """The page's e, f, m and q of a float, and the number that they make; None for what is not finite."""
+    minus, rest = divmod(bits, 2 ** 31)
+    e, f = divmod(rest, 2 ** 23)
+    m, q = f + 2 ** 23 * (e > 0), Fraction(2) ** (150 - max(e, 1))
+    metres = None if e == 255 else (-1) ** minus * m / q
+    assert metres == RULES.metres(bits)
+    return e, f, m, q, metres
+
+
+def float_row(sent, bits):
+    """One row: what was sent, its bits, e, m, q, the unrounded millimetres (rounded too where they are too many), what it is taken for."""
+    e, _, m, q, metres = by_hand(bits)
+    assert not sent or float_bits(float(sent.replace("\u2212", "-"))) == bits
+    last = taken(bits)
+    row = f"{sent} {bits:08X} {e}"
+    if metres is not None:
+        sign, rounded = "\u2212" * (metres < 0), RULES.millimetres(metres)
+        row += f" {n(m)} {n(int(q)) if e else 'e = 1'} {sign}{d(abs(1_000 * metres), 8)}" + f" {n(rounded)}" * (rounded > HIGHEST_STAGE)
+    return f"{row} {'' if last == GAP else n(last) if isinstance(last, int) else last}"
+
+
+def whole_stages():
+    """Every stage from 0 to 30,000 mm with the bits of the float nearest to it in metres."""
+    for stage in range(HIGHEST_STAGE + 1):
+        bits = float_bits(stage / 1_000)
+        _, _, m, q, _ = by_hand(bits)
+        assert abs(2_000 * m - 2 * stage * q) <= 1_000  # no other float is nearer
+        yield stage, bits
+
+
+def from_bits():
+    bits = 0x3F9E0419
+    e, f, m, q, metres = by_hand(bits)
+    upper, unit = 1_000 * m + int(q) // 2, n(2 ** 23)
+    assert upper // int(q) == taken(bits) and e == 127
+    sent = (("1.2345", bits), ("", bits - 1), ("0.0625", 0x3D800000), ("", 1), ("0.0005", 0x3A03126F), ("", 0x3A03126E),
+            ("0.0015", 0x3AC49BA6), ("1.4", 0x3FB33333), ("29.9995", 0x41EFFEFA), ("30", 0x41F00000), ("30.0004", 0x41F000D2),
+            ("30.0005", 0x41F00106), ("", 0x41F00107), ("\u22120.0001", 0xB8D1B717), ("", 0x80000000), ("", 0x7FC00001), ("", GAP_BITS))
+    lower, upper_one = by_hand(0x41F00106)[4], by_hand(0x41F00107)[4]
+    assert lower < Fraction("30.0005") < upper_one
+    product, = unpack(">f", pack(">f", 1_000 * lower))
+    same = sum(taken(each) == stage for stage, each in whole_stages())
+    every = n(HIGHEST_STAGE), n(same), n(HIGHEST_STAGE + 1)
+    return f"""1.2345 {bits:08X} B = {n(bits)} {n(2 ** 31)} [{n(bits)} / {unit}] = {e} {n(bits)} − {unit} × {e} = {n(f)}
+    {unit} + {n(f)} = {n(m)} {e} {n(int(q))} {n(m)} / {n(int(q))} = {d(metres, 8)} 1.2345
+    [({n(1_000)} × {n(m)} + {n(int(q) // 2)}) / {n(int(q))}] = [{n(upper)} / {n(int(q))}] = {n(taken(bits))}
+    {" ".join(float_row(*each) for each in sent)}
+    30.0005 {n(1_000)} 32 {n(product)} {n(RULES.millimetres(Fraction(product) / 1_000))} 0 {" ".join(every)}"""
+
+
+# The first and the last pattern of each row, in the words of the row what is a number, and what they are taken for.
+PATTERNS = ((0, 0, "", 0), (1, 0x3A03126E, "0.0005", 0), (0x3A03126F, 0x41F00106, "0.0005 30.0005", "1 30,000"),
+            (0x41F00107, 0x7F7FFFFF, "30.0005", 18), (0x7F800000, 0x7F800000, "", 18), (0x7F800001, 0x7FBFFFFF, "", 18),
+            (GAP_BITS, GAP_BITS, "", ""), (0x7FC00001, 0x7FFFFFFF, "", 18), (0x80000000, 0x80000000, "", 0),
+            (0x80000001, 0xFF7FFFFF, "", 18), (0xFF800000, 0xFF800000, "", 18), (0xFF800001, 0xFFFFFFFF, "", 18))
+
+
+def every_pattern():
+    """Each row of patterns, tried at both ends and at some thousand places between; together they are all."""
+    rows, following = [], 0
+    for first, last, words, number in PATTERNS:
+        tried = {taken(bits) for bits in (*range(first, last, max(1, (last - first) // 1_000)), last)}
+        ends = taken(first), taken(last)
+        right = {"": {GAP}, 0: {0}, 18: {"refused 18"}}.get(number)
+        assert first == following and (tried == right if right else ends == (1, HIGHEST_STAGE) and all(map(ends[0].__le__, tried)))
+        following = last + 1
+        rows.append(f"{first:08X} {f'{last:08X}' if last > first else ''} {words} {number}")
+    assert following == 2 ** 32
+    (_, _, below, _), (_, _, from_, _) = PATTERNS[1:3]
+    assert by_hand(0x3A03126E)[4] < Fraction(below) < by_hand(0x3A03126F)[4] and by_hand(0x41F00106)[4] < Fraction(from_.split()[1])
+    no_number = 0xFFC00000
+    return f"""{" ".join(rows)} 1 {n(HIGHEST_STAGE)} {0x3A03126F >> 24:X} {0x41F00106 >> 24:X} {no_number:08X} 0 / 0 {taken(no_number)}
+    {GAP_BITS:08X}"""
 
 
 def look_written(gauge, stage):
@@ -533,10 +620,46 @@ def noises():
     G = (rain // 10 ** 6) ** 2 * 1_000
     ahead = RULES.lead_rain_inflow(Element(**vars(element) | dict(rain_noise=G)), (0, 0, 0), 3, 3).variance
     squares = " ".join(f"{doubt} {doubt} × {doubt} × {n(1_000)} = {n(int(Fraction(doubt) ** 2 * 1_000))}" for doubt in ("0.5", "1", "5"))
+    piece, depth, stages = Piece(30_001, 20_000, -500), 900, []
+    for doubt in ("0.5", "5"):
+        grains = 2 * Fraction(doubt) * piece.a * depth / 1_000
+        low, high = (RULES.curve(piece, depth - piece.b + side * 5) for side in (-1, 1))
+        assert high - low == 2 * grains * 5 / Fraction(doubt)
+        flow = f"{float(grains / 10 ** 6):g}"
+        stages.append(f"2 × {doubt} × {n(piece.a)} × {depth} / {n(1_000)} = {n(int(grains))} {flow} {flow} × {flow} × {n(1_000)} = "
+                      f"{float(Fraction(flow) ** 2 * 1_000):g}")
     return f"""{squares}
+    {n(piece.a)} {depth} {stages[0]} 5 {stages[1]}
     {element.area // 100} {element.runoff} 2 2 [5 × 20 × {n(element.area)} × {element.runoff} / 18] = {n(rain)} {rain // 10 ** 6}
     {rain // 10 ** 6} × {rain // 10 ** 6} × {n(1_000)} = {n(G)} lead 3 3 × {n(G)} = {n(ahead)} {root(ahead)}
     {n(703_935)} {d(Fraction(703_935, 1_000), 3)} {root(703_935)}"""
+
+
+def same_records():
+    """The first records of the two files field by field, the others whole, and that both print the same but for one refusal."""
+    def fields(record):
+        """A record's bytes as the page writes them: length, version, two rains, a stage."""
+        ends = 0, 2, 3, 5, 7, len(record)
+        return [record[start:end].hex().upper() for start, end in zip(ends, ends[1:])]
+
+    table, rivers = decode_table(TABLE), (THREE_ELEMENTS, FLOATS)
+    printed = [run(river.data).decode().splitlines() for river in rivers]
+    assert FLOATS.table == TABLE and [record[2] for record in FLOATS.records] == [2, 2, 2, 1]
+    (version_1, version_2), = [pair for pair in zip(*printed, strict=True) if pair[0] != pair[1]]
+    after, same = (river.after_steps(RULES, 1)[0].figures[2] for river in rivers)
+    assert after == same
+    one, two, three, four = [[fields(record) for record in pair] for pair in zip(*(river.records for river in rivers))]
+    first, bits = [int(field, 16) for field in one[0]], int(one[1][4], 16)
+    lengths = [f"1 + 2 × {table.basins} + {size} × {len(table.gauges)} = {int(each[0], 16)}" for size, each in zip((2, 4), one)]
+    assert all(1 + 2 * table.basins + size * len(table.gauges) == int(each[0], 16) for size, each in zip((2, 4), one))
+    beside = [" ".join(pair) for pair in zip(*one)]
+    whole = [" ".join([*left, *right]) for left, right in (two, three, four)]
+    stuck = n(int(three[0][4], 16)), by_hand(int(three[1][4], 16))[4]
+    return f"""1 2 1 1 2 {beside[0]} {lengths[0]} 2 {lengths[1]} {beside[1]}
+    1 {beside[2]} {first[2]} 2 {beside[3]} {first[3]} 1 {beside[4]} {n(first[4])} {float(by_hand(bits)[4]):.7g} {n(taken(bits))}
+    3 {figures_written(after)} 1 2
+    2 {whole[0]} 3 {whole[1]} {stuck[0]} {stuck[1]} {version_1.split()[2]} {version_2.split()[2]} 4 {whole[2]} 1
+    {len(printed[0])} {version_1} {version_2}"""
 
 
 def rain_and_curve():
@@ -627,6 +750,51 @@ def step_that_stands():
     {n(first.variance)} 0 1 {n(second)} {n(second)} 1"""
 
 
+def displayed():
+    """The floats of the display written out, how far they lie from their counts, and what a sum of floats does."""
+    def shown(count):
+        discharge, margin = RULES.show(count, count)
+        assert discharge == margin
+        return Fraction(*unpack(">d", pack(">Q", discharge)))
+
+    def row(count):
+        off = 10 ** 6 * abs(shown(count) - Fraction(count, 10 ** 6))
+        return f"{n(count)} {d(shown(count), 18)} {d(off, 12) if off else 0}"
+
+    state, _ = THREE_ELEMENTS.after_steps(RULES, 1)
+    first, lead_1 = state.figures[2], Figures(*RULES.forecast(TABLE, state, LENT)[1][28:32])
+    some = range(0, CEILING + 1, 39_999_989)
+    assert all(f"{float(shown(count)):,.6f}" == d(Fraction(count, 10 ** 6), 6) for count in some)  # the count's own digits
+    rows = [row(count) for count in (first.discharge, first.margin, lead_1.margin, 814_758_304, CEILING - 1, CEILING)]
+    highest, at_first = (Fraction(ulp(float(shown(count)))) / 2 for count in (CEILING, first.discharge))  # half a unit of the last place
+    parts = 700_000, 100_000
+    total = sum(float(shown(count)) for count in parts)
+    assert total < float(shown(sum(parts)))
+    tenths = [f"{float(shown(count)):g}" for count in (*parts, sum(parts))]
+    return f"""18 3 1 {" ".join(rows)} {n(CEILING + 1)} {tried_figures.refusal(RULES.show, CEILING + 1, 0)}
+    1 / {n(highest.denominator)} {n(CEILING // 10 ** 6)} {d(10 ** 6 * highest, 12)}
+    {d(Fraction(first.discharge, 10 ** 6))} 1 / {n(at_first.denominator)}
+    {n(parts[0])} {n(parts[1])} {n(sum(parts))} {tenths[2]} {tenths[0]} {tenths[1]} {d(Fraction(total), 18)} {tenths[2]}"""
+
+
+def wrong_order():
+    """Floats with their bytes in the wrong order."""
+    def turned(bits):
+        return int.from_bytes(bits.to_bytes(4, "little"), "big")
+
+    def came(sent, with_metres=True):
+        bits = float_bits(float(sent))
+        metres = f"{d(by_hand(turned(bits))[4], 9)} " if with_metres else ""
+        return f"{sent} {bits:08X} {turned(bits):08X} {metres}{taken(turned(bits))}"
+
+    assert by_hand(turned(float_bits(1.41)))[4] < 0
+    found = [taken(turned(bits)) for _, bits in whole_stages()]
+    refused, zero = found.count("refused 18"), found.count(0)
+    assert GAP not in found
+    return f"""{came("1.41", False)} {came("1.4")} {came("1.43")} {turned(GAP_BITS):08X} {taken(turned(GAP_BITS))}
+    {n(len(found))} 0 {n(HIGHEST_STAGE)} {n(refused)} 18 {n(zero)} 0 {n(len(found) - refused - zero)} 0 14"""
+
+
 def lost_byte():
     """The example river without the last byte of its first record."""
     at = len(TABLE) + len(RECORDS[0]) - 1
@@ -681,15 +849,18 @@ def refused_with(down=0, rain=3_000, release=0, stage=30_000):
 
 def worked():
     """By name of the example: its numbers as text, in the page's order."""
-    return {"the weight": the_weight, "a rise in a straight line": straight_line, "one move": one_move, "one look along a curve": one_look,
+    return {"the weight": the_weight, "a rise in a straight line": straight_line, "one move": one_move,
+            "from bits to millimetres": from_bits, "every pattern that a gauge can send": every_pattern, "one look along a curve": one_look,
             "one reading": one_reading,
             "one step of a river": one_step, "one lead": one_lead, "the mean of the last rains": later_rains, "a trial": a_trial,
             "a river with a dam": river_with_a_dam,
             "the weight's 3": weight_errors,
-            "margins of the sample river": sample_margins, "noise from a doubt": noises, "rain, stage and curve": rain_and_curve,
+            "margins of the sample river": sample_margins, "noise from a doubt": noises, "the same records in both versions": same_records,
+            "rain, stage and curve": rain_and_curve,
             "the highest rain of a basin": basin_sizes, "the sum of variances": variance_sum,
             "a margin that grows from reading to reading": growing_margin,
-            "a step that stands though its forecast is refused": step_that_stands, "a rain line that fails": failing_rain_line,
+            "a step that stands though its forecast is refused": step_that_stands, "what the display shows": displayed,
+            "bytes in the wrong order": wrong_order, "a rain line that fails": failing_rain_line,
             "a byte lost on the line": lost_byte, "a new table in the middle of an event": new_table, "figures to try": figures_to_try}
 
 
