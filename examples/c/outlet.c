@@ -11,11 +11,11 @@ static uint8_t input[1 << 24];
 static uint64_t numbers[RIVER_MOST_NUMBERS]; /* lent to each forecast */
 static river_state river;                    /* before the start it may hold anything */
 
-/* Grains of 0.000001 m3/s, exactly; a margin stands beside each discharge. */
+/* As a display shows them: floats in m3/s, which with six places have the digits of the counts. What is compared is the counts. */
 static void print_discharge(river_figures figures)
 {
-    printf("%" PRIu64 ".%06" PRIu64 " m3/s", figures.discharge / 1000000, figures.discharge % 1000000);
-    printf(" +- %" PRIu64 ".%06" PRIu64, figures.discharge_margin / 1000000, figures.discharge_margin % 1000000);
+    river_shown shown = river_show(figures.discharge, figures.discharge_margin); /* no forecast has a count that it refuses */
+    printf("%.6f m3/s +- %.6f", shown.discharge, shown.margin);
 }
 
 static int refused(uint64_t number)
@@ -67,7 +67,8 @@ int main(int argc, char **argv)
     fclose(file);
     if (refused(river_start(input, table_bytes, &river))) return 1;
     river_plan plan = river_check(input, table_bytes);
-    printf("%zu elements, %zu gauges, %zu leads, records of %zu bytes\n", plan.elements, plan.gauges, plan.leads, plan.record_bytes);
+    printf("%zu elements, %zu gauges, %zu leads, records of %zu bytes or, with floats, %zu\n", plan.elements, plan.gauges, plan.leads,
+           plan.record_bytes, plan.record_bytes + 2 * plan.gauges);
     for (size_t at = table_bytes; at < size; at += bytes) {
         bytes = whole(input + at, size - at, 2);
         uint64_t number = river_step(input, table_bytes, input + at, bytes, &river); /* a refused step leaves the state as it was */
