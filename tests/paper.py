@@ -25,8 +25,8 @@ from paper_figures import bytes_of_hex, sample_worked, worked
 ROOT = Path(__file__).resolve().parent.parent
 METHOD, SAMPLE = ROOT / "docs/METHOD.md", ROOT / "examples/yubetsu-2001"
 HEADING = "### Worked example: "
-# A word of four or eight hex digits with a letter and a figure, or a number.
-NUMBER = re.compile(r"\b(?=(?:[0-9A-F]{4}){1,2}\b)(?=\w*[A-F])(?=\w*[0-9])\w+|\u2212?[0-9]+(?:,[0-9]{3}(?![0-9]))*(?:\.[0-9]+)?")
+# A word of four or eight hex digits with a letter and a figure or all F, or a number.
+NUMBER = re.compile(r"\b(?=(?:[0-9A-F]{4}){1,2}\b)(?=\w*[A-F])(?=\w*[0-9]|F+\b)\w+|\u2212?[0-9]+(?:,[0-9]{3}(?![0-9]))*(?:\.[0-9]+)?")
 BLOCK = re.compile(r"^```(\w+)\n(.*?)^```$", re.MULTILINE | re.DOTALL)
 # Where printed lines are shown, their form, and the file in which each must stand (of METHOD.md its own blocks of output).
 FIGURE_LINE, OUTLET_LINE = r"^    ([0-9]+(?: [0-9]+){6})$", r"^    (step [0-9]+: .*)$"
