@@ -2344,7 +2344,8 @@ def try_versions():
 # Rules that change figures of the worked examples.
 WRONG_METHODS = (GainMarginTwo, ReadingsIgnored, CorrectionVarianceKept, RainSumByThree, LastRainOnly, LeadNoiseOnce,
                  VarianceWeightNotSquared, SystemNoiseLeftOut, WeightsExchanged, ShortSeries, SumOfNewOutflows, OldForNew, NewForOldInSteps,
-                 NewForOldAtLeads, StateForOldAtLeads, DamNewReleaseAsOld, InflowMarginWithoutOne, MeanVariance)
+                 NewForOldAtLeads, StateForOldAtLeads, DamNewReleaseAsOld, InflowMarginWithoutOne, MeanVariance, ProductIn32Bits, HalvesToEven,
+                 EveryNanAGap, NegativesThatRoundToZero, ThirteenForEighteen, DisplayMultiplied)
 
 
 def changed_figures(text):
