@@ -1,8 +1,8 @@
 -- Two records of either version with the same rains, releases and readings get the same answer of a step and of a trial.
-use Prim.Native.Nat.{ℕ, _+_, _<_}
-use mathlib.Core.Bool.{Bool, true, false, cond}
+use Prim.Native.Nat.{ℕ}
+use mathlib.Core.Bool.{Bool, true, false}
 use mathlib.Core.List.{List}
-use mathlib.Core.Path.{_≡_, refl, ap, fun-ext, _∙_}
+use mathlib.Core.Path.{_≡_, refl, fun-ext}
 use borrow.Author.Tests.{ltb-true}
 use native.Mathlib.Omega.{arith}
 use lib.Dec.{ltb}
@@ -13,7 +13,7 @@ use Rattle.elements.specs.Elements.{noElement}
 use Rattle.table.specs.Tables.{TableValues}
 use Rattle.table.specs.InUse.{below, inUse, tableIn}
 use Rattle.table.specs.KindCounts.{basinCount, damCount}
-use Rattle.record.specs.Records.{Input, rainOf, releaseOf, inputRain, inputRelease, inputObservation, inputAt}
+use Rattle.record.specs.Records.{rainOf, releaseOf, inputRain, inputRelease, inputAt}
 use Rattle.record.specs.Rules.{rainFits, releaseFits, readingFits, rainsFit, releasesFit, readingsFit, recordRules}
 use Rattle.record.proofs.SameLaws.{same-rain, same-release, same-observation}
 use Rattle.state.specs.States.{State}
