@@ -1,6 +1,7 @@
 #!/usr/bin/env python3
 """Tries the built program on generated inputs and judges every output by judge.py; where an input has a twin, the same readings in records
-of version 1, the program must print the same for both, whatever the calculator says.
+of version 1, the program must print the same for both, whatever the calculator says. So with the floats around every half millimetre, too
+many to be worked out here: the calculator gives their millimetres alone.
 
     python3 tests/generated.py [--long] [--seed S] [--only K] [program]
 
@@ -16,7 +17,7 @@ import time
 from pathlib import Path
 
 from calculator import program, tried_figures
-from inputs import inputs, random_for
+from inputs import every_half_millimetre, inputs, random_for
 from judge import judge, judged, version_complaint
 
 ROOT = Path(__file__).resolve().parent.parent
@@ -98,6 +99,10 @@ def main():
                 print(f"  {check}: {complaint}")
         if options.only is not None:
             print(f"input: {data.hex()}\nexpected:\n{expected.decode()}output:\n{output.decode(errors='replace')}", end="")
+    if options.only is None:
+        complaint = version_complaint(*map(under_test, every_half_millimetre()))
+        print(f"every half millimetre: {complaint.get('versions', 'as in version 1')}")
+        failed += bool(complaint)
     print("inputs by refusal: " + ", ".join(f"{number}: {count}" for number, count in sorted(refusals.items())))
     print("figures compared: " + ", ".join(f"{count} {way}" for way, count in judged.items()))
     print(f"{time.process_time() - started:.0f} s in this process", file=sys.stderr)

@@ -8,6 +8,7 @@ from random import Random
 from typing import Callable
 
 from calculator.encode import big_endian, float_bits, record_bytes, table_bytes
+from calculator.floats import float_value, millimetres
 from calculator.tried_figures import EXAMPLE_INPUT as EXAMPLE
 
 YUBETSU = Path(__file__).resolve().parent.parent / "examples/yubetsu-2001/cabinet.bin"
@@ -824,6 +825,13 @@ def float_rivers():
         ((7,), list(map(stage_bits, row)), (float_bits(1.5), FLOAT_GAP), 2) for row in rows]
     yield "versions in turn", small_table(), [record if k % 2 else in_floats(record) for k, record in enumerate(SMALL_RECORDS * 4)]
     yield "no gauge", dict(T=60, L=1, elements=[basin()], gauges=[]), [((5,), (), (), version) for version in (1, 2, 3, 2, 1)]
+
+
+def every_half_millimetre():
+    """The floats around every half millimetre up to 30 m in version 2, and in version 1 the stages that the calculator gives them."""
+    records = float_rows(near_halves())
+    stages = [((), [GAP if bits == FLOAT_GAP else millimetres(float_value(bits)) for bits in row]) for _, row, *_ in records]
+    return whole_input(float_table(16), records), whole_input(float_table(16), stages)
 
 
 def in_floats(record, random=None):
