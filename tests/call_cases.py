@@ -1260,7 +1260,7 @@ def random_floats(random):
 
 def float_cases():
     for name, table, records in (("exact halves", float_table(16), float_rows(EXACT_HALVES)),
-                                 ("near half a millimetre", float_table(16), float_rows(near_halves(113))),
+                                 ("near half a millimetre", float_table(16), float_rows(near_halves(997))),
                                  ("near 30 m", float_table(), float_rows(NEAR_30_METRES, 1)),
                                  ("special patterns", float_table(), float_rows(list(SPECIAL.values()), 1)),
                                  ("special patterns at each gauge", float_table(16), at_each_gauge([*SPECIAL.values()] * 2)),

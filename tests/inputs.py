@@ -806,7 +806,7 @@ def at_each_gauge(patterns, count=16):
 def float_rivers():
     """(name, table, records): what floats stand for, where they stand in a record, and records of both versions."""
     yield "exact halves", float_table(16), float_rows(EXACT_HALVES)
-    yield "near half a millimetre", float_table(16), float_rows(near_halves(37))
+    yield "near half a millimetre", float_table(16), float_rows(near_halves(311))
     yield "near 30 m", float_table(), float_rows(NEAR_30_METRES, 1)
     yield "special patterns", float_table(), float_rows([bits for pattern in SPECIAL.values() for bits in (pattern, stage_bits(1_000))], 1)
     yield "special patterns at each gauge", float_table(16), at_each_gauge([*SPECIAL.values(), *[0xFFC0_0000] * 16])
