@@ -28,8 +28,8 @@ unfoldable pub refusalOf : {A : Type 0} → Answer A → ℕ
 refusalOf (accepted a) = 0
 refusalOf (refused n) = n
 
--- what a table asks the host to lend: of a record of version 1 "1 + 2 × basins + 2 × M" bytes, and 4 a dam (M-100), after the two of its length, and
--- "4 × N × (L + 1)" numbers of a forecast; and T
+-- what a table asks the host to lend: of a record of version 1 "1 + 2 × basins + 2 × M" bytes, and 4 a dam (M-100), after the two of its
+-- length, and "4 × N × (L + 1)" numbers of a forecast; and T
 unfoldable pub planOf : TableValues → TablePlan
 planOf t =
     record {
