@@ -6,7 +6,8 @@ use mathlib.Core.Path.{_≡_}
 use lib.Dec.{eqb}
 use Rattle.rating.specs.declared.Curve.{Curve}
 use Rattle.fields.specs.Ranges.{allBelow}
-use Rattle.gauges.specs.Places.{curveAt, GaugeThere}
+use Rattle.gauges.specs.Gauges.{curveAt}
+use Rattle.gauges.specs.Places.{GaugeThere}
 use Rattle.gauges.specs.Rules.{topBefore, pieceFits, curveFits}
 
 -- the gauge at a place is there, and its pieces in use are this many, in their range

@@ -1,6 +1,7 @@
 // Rule 7 on a gauge's curve, read where it stands in the table.
 ghost use mathlib.Core.Path.{_≡_};
-ghost use Rattle.gauges.specs.Places.{curveAt, GaugeThere};
+ghost use Rattle.gauges.specs.Gauges.{curveAt};
+ghost use Rattle.gauges.specs.Places.{GaugeThere};
 ghost use Rattle.gauges.specs.Rules.{offsetFits, offsetZero, pieceInUseFits, pieceUnused, curveFits};
 ghost use Rattle.curve_rules.specs.Judged.{Counted, InUseKept, InUseJudged};
 use fields::bytes::wide;

@@ -1,7 +1,7 @@
 -- Document 01, One step, and document 02, M-100 and M-103: what one element takes in, how it moves, how a reading corrects it, what a dam
 -- lets out.
 use Prim.Native.Nat.{ℕ}
-use mathlib.Core.List.{List, [], _++_}
+use mathlib.Core.List.{List, [], _∷_, _++_}
 use Rattle.weighting.specs.Estimates.{estimate}
 use Rattle.method.specs.declared.Figures.{Figures}
 use Rattle.method.specs.Figures.{figures, figureNumbers}
@@ -41,10 +41,10 @@ elementStep H e own o above old =
     byKind (e .kind) (stored H e o own old) (stored H e o (reachInflow above) old) own noInflow
 
 -- 16: "Some inflow, inflow variance, discharge or variance of this call, before or after correction, or the margin of any of
--- these or of a blend on the way", of one element
+-- these or of a blend on the way", of one element; M-105: "A noise above the ceiling is refused as 16"
 unfoldable pub observationNumbers : Observation → Figures → List ℕ
 observationNumbers Nothing x = []
-observationNumbers (Rated z noise) x = correctionNumbers (noise .0) (z .0) x
+observationNumbers (Rated z noise) x = noise .0 ∷ correctionNumbers (noise .0) (z .0) x
 
 unfoldable pub moveNumbers : ℕ → Element → Observation → Figures → Figures → List ℕ
 moveNumbers H e o inflow old =

@@ -44,7 +44,12 @@ fn correct_by(observation: Observation, x: Figures) -> FiguresAnswer
 {
     match observation {
         Observation::Nothing => FiguresAnswer::Accepted(x),
-        Observation::Rated(z, noise) => correct(noise, z, x),
+        Observation::Rated(z, noise) => {
+            if Variance::CEILING < noise.0 {
+                return FiguresAnswer::Refused(Refusal::AboveCeiling);
+            }
+            correct(noise, z, x)
+        }
     }
 }
 

@@ -1,14 +1,14 @@
 -- Laws of the elements: what rules 5 and 6 let callers rely on.
 use Prim.Native.Nat.{ℕ, _+_, _-_, _≤_, _<_}
-use mathlib.Core.Bool.{Bool, true, false, not, _&&_, true≢false}
+use mathlib.Core.Bool.{Bool, true, false, not, _&&_, _||_, true≢false}
 use mathlib.Core.Logic.{_⊎_, inl, inr, _≢_, ⊎-elim}
-use mathlib.Core.Path.{_≡_, sym}
+use mathlib.Core.Path.{_≡_, sym, ap}
 use borrow.Author.Tests.{ltb-true, leb-true, eqb-true}
 use native.Mathlib.Omega.{arith}
 use lib.Dec.{ltb, leb, eqb}
 use Rattle.units.specs.Units.{C}
 use Rattle.fields.specs.Ranges.{inRange}
-use Rattle.fields.proofs.RangeLaws.{both, all-three, all-four, either, range-bounds}
+use Rattle.fields.proofs.RangeLaws.{both, all-three, all-four, either, joined-same, range-bounds}
 use Rattle.elements.specs.declared.Element.{Element}
 use Rattle.elements.specs.Rules.{lagFits, basinFits, reachFits, damFits, kindFits, elementFits, downFits}
 use Rattle.elements.specs.Bounds.{ElementBounds}
@@ -120,3 +120,18 @@ module _ (n : ℕ) (element : ℕ → Element) (i : ℕ) where
         systemNoise = range-bounds _ _ _ (a .1 .1 .1) .1;
         rainNoise = own .rainNoise;
       }
+
+-- rule 6 on an element looks at places in use alone
+pub down-same :
+    (n : ℕ) (one other : ℕ → Element)
+    → ((i : ℕ) → i < n → one i ≡ other i)
+    → (i : ℕ)
+    → i < n
+    → downFits n one i ≡ downFits n other i
+unfolding downFits
+down-same n one other h i l =
+    let down = other i .down in
+    rw (h i l)
+    (ap (λ later. eqb down 0 || later)
+    (joined-same (ltb (i + 1) down) (leb down n)
+    (λ a b. rw (h (down - 1) (omega (arith, ltb-true (i + 1) down a, leb-true down n b))))))

@@ -2,7 +2,7 @@
 use Prim.{Unit}
 use Prim.Native.Nat.{ℕ, _+_, _≤_, _<_}
 use mathlib.Core.Bool.{Bool, true, false, cond}
-use mathlib.Core.List.{List, []}
+use mathlib.Core.List.{List, [], _∷_}
 use mathlib.Core.Logic.{⊎-elim}
 use mathlib.Core.Path.{_≡_, refl, sym, subst, _∙_}
 use borrow.Author.Tests.{le-leb, eq-eqb}
@@ -89,8 +89,9 @@ unfolding moveNumbers observationNumbers correctedBy moved
 moved-fit H e Nothing inflow old u =
     routed-fit H (e .«system_noise» .0) inflow old (parts-under (routingNumbers H (e .«system_noise» .0) inflow old) [] u .0)
 moved-fit H e (Rated z noise) inflow old u =
-    corrected-fit (noise .0) (z .0) (routed H (e .«system_noise» .0) inflow old)
-    (parts-under (routingNumbers H (e .«system_noise» .0) inflow old) (correctionNumbers (noise .0) (z .0) (routed H (e .«system_noise» .0) inflow old)) u .1)
+    let x = routed H (e .«system_noise» .0) inflow old in
+    let observed = parts-under (routingNumbers H (e .«system_noise» .0) inflow old) (noise .0 ∷ correctionNumbers (noise .0) (z .0) x) u .1 in
+    corrected-fit (noise .0) (z .0) x (first-under (noise .0) _ observed .1)
 
 -- an element that stores water, and any
 stored-fit :

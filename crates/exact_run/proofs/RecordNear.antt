@@ -7,7 +7,10 @@ use mathlib.Core.Path.{_≡_, refl}
 use native.Mathlib.Omega.{arith}
 use lib.Dec.{eqb}
 use Rattle.refusal.specs.Answers.{Answer, accepted, refused}
+use Rattle.units.specs.Units.{thousandths}
 use Rattle.units.specs.declared.Discharge.{Discharge}
+use Rattle.rating.specs.Noise.{noiseOf, withNoise}
+use Rattle.rating.proofs.NoiseLaws.{noise-least}
 use Rattle.rating.specs.Rating.{piecesOf, rated}
 use Rattle.weighting.specs.Estimates.{estimate}
 use Rattle.method.specs.declared.Figures.{Figures}
@@ -19,6 +22,7 @@ use Rattle.elements.specs.declared.Element.{Element}
 use Rattle.elements.proofs.KindLaws.{kind-both}
 use Rattle.fields.proofs.RangeLaws.{all-at}
 use Rattle.gauges.specs.declared.Gauge.{Gauge}
+use Rattle.gauges.specs.Looks.{lookBy, lookOn}
 use Rattle.gauges.specs.Bounds.{GaugeBounds}
 use Rattle.table.specs.Tables.{TableValues}
 use Rattle.table.specs.Bounds.{TableBounds}
@@ -31,7 +35,7 @@ use Rattle.record.specs.Rules.{isAccepted, readingFits, recordRules}
 use Rattle.record.proofs.RecordLaws.{rules-kept}
 use Rattle.element_step.specs.ElementStep.{released, ownOf}
 use Rattle.network.specs.Step.{stepOwn, observedIn}
-use Rattle.exact_run.specs.ExactStep.{ExactObservation, nothing, exactReading, exactObserved, exactObservationIn, exactReleased, exactOwnOf, exactOwn}
+use Rattle.exact_run.specs.ExactStep.{ExactObservation, nothing, exactReading, givenNoise, exactObserved, exactObservationIn, exactReleased, exactOwnOf, exactOwn}
 use Rattle.exact_run.specs.Following.{Observes, no-reading, reading}
 
 -- what an element has of its own: the inflow of a basin, and the release of a dam, which is exact
@@ -50,16 +54,20 @@ module _ (n : ℕ) (gauge : Gauge) (b : GaugeBounds n gauge) where
   rated-near :
       (h : ℕ) (z : Answer Discharge)
       → rated h (piecesOf (gauge .curve)) ≡ z
-      → isAccepted (rateAnswer (gauge .noise) z) ≡ true
-      → Observes (acceptedObservation (rateAnswer (gauge .noise) z)) (exactReading (gauge .noise .0) (exactRated h (piecesOf (gauge .curve))))
-  unfolding isAccepted rateAnswer acceptedObservation exactReading
+      → let r = withNoise (gauge .noise) (gauge .beta) z in
+      isAccepted (rateAnswer r) ≡ true
+      → Observes (acceptedObservation (rateAnswer r)) (exactReading (givenNoise r) (exactRated h (piecesOf (gauge .curve))))
+  unfolding withNoise isAccepted rateAnswer acceptedObservation givenNoise exactReading
   rated-near h (accepted z) e ok =
-      let r = rating-near h (piecesOf (gauge .curve)) e in rw (r .same) (reading (b .noiseLeast) (r .near))
+      let r = rating-near h (piecesOf (gauge .curve)) e in
+      let noise = thousandths (noiseOf (gauge .noise .0) (gauge .beta) (z .0)) in
+      let least : 1 ≤ noise .0 = omega (arith, noise-least (gauge .noise .0) (gauge .beta) (z .0), b .noise .noiseLeast) in
+      rw (r .same) (reading {noise = noise} least (r .near))
   rated-near h (refused k) e ok = let z : _≡_ {A = ℕ} 0 1 = cc in absurd (omega arith)
 
   observed-near :
       (r : Reading) → isAccepted (observationOf gauge r) ≡ true → Observes (acceptedObservation (observationOf gauge r)) (exactObserved gauge r)
-  unfolding observationOf exactObserved acceptedObservation
+  unfolding observationOf exactObserved acceptedObservation lookOn lookBy
   observed-near Gap ok = no-reading
   observed-near (At h) ok = rated-near (h .0) (rated (h .0) (piecesOf (gauge .curve))) refl ok
 

@@ -9,7 +9,9 @@ use Rattle.exact.specs.Exact.{ExactFigures, exactRouted, exactCorrected, exactR
 use Rattle.elements.specs.declared.Element.{Element}
 use Rattle.elements.specs.Kinds.{byKind}
 use Rattle.rating.specs.Rating.{piecesOf}
+use Rattle.rating.specs.Noise.{RatedReading}
 use Rattle.gauges.specs.declared.Gauge.{Gauge}
+use Rattle.gauges.specs.Looks.{lookOn}
 use Rattle.table.specs.Tables.{TableValues}
 use Rattle.record.specs.declared.Reading.{Reading}
 use Rattle.record.specs.declared.Reading.the-variants.{At, Gap}
@@ -17,7 +19,7 @@ use Rattle.record.specs.Records.{readingAt, atElement, inputRain, inputRelease}
 use Rattle.walk.specs.Walk.{newCell}
 use Rattle.network.specs.Step.{networkDown}
 
--- what a gauge observes: nothing, or the unrounded discharge and the noise R
+-- what a gauge observes: nothing, or the unrounded discharge and the noise
 pub data ExactObservation : Type 0 where
   nothing : ExactObservation
   rated : Fraction → ℕ → ExactObservation
@@ -26,9 +28,14 @@ unfoldable pub exactReading : ℕ → Answer Fraction → ExactObservation
 exactReading R (accepted z) = rated z R
 exactReading R (refused n) = nothing
 
+-- M-105: "This noise, from the whole-number z, is a given of both runs."
+unfoldable pub givenNoise : Answer RatedReading → ℕ
+givenNoise (accepted r) = r .noise .0
+givenNoise (refused n) = 0
+
 unfoldable pub exactObserved : Gauge → Reading → ExactObservation
 exactObserved gauge Gap = nothing
-exactObserved gauge (At h) = exactReading (gauge .noise .0) (exactRated (h .0) (piecesOf (gauge .curve)))
+exactObserved gauge (At h) = exactReading (givenNoise (lookOn gauge (h .0) .answer)) (exactRated (h .0) (piecesOf (gauge .curve)))
 
 -- what a record brings element i: what the gauge at it observes, and what it has of its own
 unfoldable pub exactObservationIn : TableValues → List ℕ → ℕ → ExactObservation

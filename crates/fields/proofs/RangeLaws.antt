@@ -28,7 +28,7 @@ all-four a b c d h =
     let l = all-three a b c (k .0) in
     (l .0, (l .1 .0, (l .1 .1, k .1)))
 
-pub all-five :
+all-five :
     (a b c d e : Bool)
     → ((((a && b) && c) && d) && e) ≡ true
     → (a ≡ true) × ((b ≡ true) × ((c ≡ true) × ((d ≡ true) × (e ≡ true))))
@@ -36,6 +36,15 @@ all-five a b c d e h =
     let k = both (((a && b) && c) && d) e h in
     let l = all-four a b c d (k .0) in
     (l .0, (l .1 .0, (l .1 .1 .0, (l .1 .1 .1, k .1))))
+
+pub all-six :
+    (a b c d e f : Bool)
+    → (((((a && b) && c) && d) && e) && f) ≡ true
+    → (a ≡ true) × ((b ≡ true) × ((c ≡ true) × ((d ≡ true) × ((e ≡ true) × (f ≡ true)))))
+all-six a b c d e f h =
+    let k = both ((((a && b) && c) && d) && e) f h in
+    let l = all-five a b c d e (k .0) in
+    (l .0, (l .1 .0, (l .1 .1 .0, (l .1 .1 .1 .0, (l .1 .1 .1 .1, k .1)))))
 
 -- one of two tests that hold, and which of two a condition chooses
 pub either : (a b : Bool) → (a || b) ≡ true → (a ≡ true) ⊎ (b ≡ true)
@@ -90,6 +99,12 @@ pub all-same : (one other : ℕ → Bool) (n : ℕ) → ((k : ℕ) → k < n →
 unfolding allBelow
 all-same one other zero h = refl
 all-same one other (suc n) h = rw (all-same one other n (λ k l. h k (omega arith)), h n (omega arith))
+
+-- what is asked once two tests hold
+pub joined-same : (a b : Bool) {x y : Bool} → (a ≡ true → b ≡ true → x ≡ y) → ((a && b) && x) ≡ ((a && b) && y)
+joined-same true true h = h refl refl
+joined-same true false h = refl
+joined-same false b h = refl
 
 -- a test that the code worked out and found kept, or broken
 pub kept : {fit test : Bool} → fit ≡ test → not fit ≡ false → test ≡ true

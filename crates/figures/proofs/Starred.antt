@@ -8,6 +8,7 @@ use Rattle.fields.specs.Ranges.{allBelow}
 use Rattle.elements.specs.Elements.{elementAt}
 use Rattle.elements.specs.Kinds.{byKind}
 use Rattle.elements.specs.Rules.{lagFits, basinFits, reachFits, damFits, kindFits, elementFits, downFits}
+use Rattle.gauges.specs.Gauges.{tableVersion, gaugeSize}
 use Rattle.table.specs.Tables.{tableOf}
 use Rattle.table.specs.Rules.{lengthFits, versionFits, countsFit, sizeFits, tableRules}
 use Rattle.entries.specs.Entries.{startAnswer}
@@ -15,7 +16,7 @@ use Rattle.figures.specs.Starred.{Starred}
 use Rattle.figures.proofs.Output.{whole-output}
 
 pub starred : Starred
-unfolding turned weight weightedMean gapOf blended pieceFor depth dischargeAt onPiece rated gain gainMargin correctedDischarge correctedVariance corrected allBelow elementAt byKind lagFits basinFits reachFits damFits kindFits elementFits downFits tableOf lengthFits versionFits countsFit sizeFits tableRules startAnswer
+unfolding turned weight weightedMean gapOf blended pieceFor depth dischargeAt onPiece rated gain gainMargin correctedDischarge correctedVariance corrected allBelow elementAt byKind lagFits basinFits reachFits damFits kindFits elementFits downFits tableVersion gaugeSize tableOf lengthFits versionFits countsFit sizeFits tableRules startAnswer
 starred =
     record {
       weight-of-an-hour = refl;

@@ -9,7 +9,7 @@ use Rattle.fields.specs.Ranges.{inRange}
 use Rattle.elements.specs.declared.Element.{Element}
 use Rattle.elements.specs.Kinds.{dam}
 use Rattle.gauges.specs.declared.Gauge.{Gauge}
-use Rattle.gauges.specs.Rules.{elementBefore, curveFits, notOnDam, gaugeFits}
+use Rattle.gauges.specs.Rules.{elementBefore, curveFits, notOnDam, betaFits, gaugeFits}
 
 -- the element of gauge g and that of the gauge before it
 module _
@@ -34,10 +34,11 @@ module _
         unfolding gaugeFits notOnDam
         noise-broken r = rw (← a, ← e, lt-ltb _ _ after, le-leb _ _ there, ← k, ne-eqb _ _ free, r)
 
-        pub curve-left :
-            inRange (gauge g .noise .0) 1 C ≡ true
-            → {fit : Bool}
-            → fit ≡ curveFits (gauge g .curve)
-            → fit ≡ gaugeFits n element gauge g
-        unfolding gaugeFits notOnDam
-        curve-left r f = rw (← a, ← e, lt-ltb _ _ after, le-leb _ _ there, ← k, ne-eqb _ _ free, r) f
+        module _ (noise : inRange (gauge g .noise .0) 1 C ≡ true) {beta : ℕ} (b : beta ≡ gauge g .beta) where
+          pub beta-broken : 500 < beta → false ≡ gaugeFits n element gauge g
+          unfolding gaugeFits notOnDam betaFits
+          beta-broken m = rw (← a, ← e, lt-ltb _ _ after, le-leb _ _ there, ← k, ne-eqb _ _ free, noise, ← b, lt-leb _ _ m)
+
+          pub curve-left : beta ≤ 500 → {fit : Bool} → fit ≡ curveFits (gauge g .curve) → fit ≡ gaugeFits n element gauge g
+          unfolding gaugeFits notOnDam betaFits
+          curve-left l f = rw (← a, ← e, lt-ltb _ _ after, le-leb _ _ there, ← k, ne-eqb _ _ free, noise, ← b, le-leb _ _ l) f

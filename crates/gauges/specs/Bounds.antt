@@ -1,22 +1,21 @@
 -- What callers may rely on once rule 7 accepts a gauge.
-use Prim.Native.Nat.{ℕ, _+_, _*_, _≤_}
+use Prim.Native.Nat.{ℕ, _≤_}
 use mathlib.Core.List.{List}
 use Rattle.sizes.specs.Sizes.{mostElements}
-use Rattle.units.specs.Units.{C}
 use Rattle.rating.specs.Rating.{CurveFits}
+use Rattle.rating.specs.Bounds.{NoiseInRange}
 use Rattle.gauges.specs.declared.Gauge.{Gauge}
 use Rattle.gauges.specs.Gauges.{gaugeAt}
-use Rattle.gauges.specs.Places.{GaugeThere}
+use Rattle.gauges.specs.Places.{GaugePlaced}
 
 -- of a gauge among n elements
 pub record GaugeBounds (n : ℕ) (g : Gauge) : Type 0 where
   pub elementLeast : 1 ≤ g .element
   pub elementMost : g .element ≤ n
-  pub noiseLeast : 1 ≤ g .noise .0
-  pub noiseMost : g .noise .0 ≤ C
+  pub noise : NoiseInRange (g .noise .0) (g .beta)
   pub curve : CurveFits (g .curve)
 
 -- gauge g of a table with n elements: its bytes are there, and rule 7 accepts it
 pub record GaugeKnown (table : List ℕ) (n g : ℕ) : Type 0 where
-  pub there : GaugeThere table (26 * n + 46 * g + 10)
+  pub placed : GaugePlaced table n g
   pub bounds : GaugeBounds mostElements (gaugeAt table n g)

@@ -1,4 +1,4 @@
--- Document 01, Numbers for no, 7, with the ranges of The table, and document 02, M-100.
+-- Document 01, Numbers for no, 7, with the ranges of The table, and document 02, M-100 and M-105.
 use Prim.Native.Nat.{ℕ, zero, suc, _-_}
 use mathlib.Core.Bool.{Bool, cond, not, _&&_}
 use lib.Dec.{ltb, leb, eqb}
@@ -59,9 +59,14 @@ elementBefore gauge (suc g) = gauge g .element
 unfoldable pub notOnDam : (ℕ → Element) → Gauge → Bool
 notOnDam element gauge = not (eqb (element (gauge .element - 1) .kind) dam)
 
+-- M-105: "β in thousandths, 0 to 500"
+unfoldable pub betaFits : Gauge → Bool
+betaFits gauge = leb (gauge .beta) 500
+
 -- "A gauge's element is 1 to N; gauges rise strictly by element." "R 1 to C.", of gauge g at n elements
 unfoldable pub gaugeFits : ℕ → (ℕ → Element) → (ℕ → Gauge) → ℕ → Bool
 gaugeFits n element gauge g =
-    (((ltb (elementBefore gauge g) (gauge g .element) && leb (gauge g .element) n) && notOnDam element (gauge g))
+    ((((ltb (elementBefore gauge g) (gauge g .element) && leb (gauge g .element) n) && notOnDam element (gauge g))
     && inRange (gauge g .noise .0) 1 C)
+    && betaFits (gauge g))
     && curveFits (gauge g .curve)

@@ -1,9 +1,9 @@
 // The gauges of a table.
 ghost use mathlib.Core.Path.{_≡_};
-ghost use Prim.Native.Nat.{_+_, _*_, _≤_, _<_};
+ghost use Prim.Native.Nat.{_+_, _≤_, _<_};
 ghost use lib.ListN.{length};
-ghost use Rattle.sizes.specs.Sizes.{mostElements, mostGauges};
-ghost use Rattle.gauges.specs.Gauges.{offsetOf, pieceAt, gaugeAt};
+ghost use Rattle.gauges.specs.Gauges.{offsetOf, pieceAt, gaugeSize, betaAt, gaugePlace, gaugeAt};
+ghost use Rattle.gauges.specs.Places.{Versioned, GaugeThere, GaugePlaced};
 use fields::bytes::whole16;
 use fields::bytes::whole32;
 use fields::bytes::wide;
@@ -13,10 +13,12 @@ use rating::Piece;
 use units::Stage;
 use units::Variance;
 
-// A gauge of the table: its curve, its noise R and the element it stands at. The code reads each where it stands in the table.
+// A gauge of the table: its curve, its noise R, β in thousandths and the element it stands at. The code reads each where it stands in the
+// table.
 pub struct Gauge {
     pub curve: Curve,
     pub noise: Variance,
+    pub beta: u64,
     pub element: usize,
 }
 
@@ -43,10 +45,37 @@ pub fn piece_at(table: &[u8], at: usize) -> Piece
     }
 }
 
+// The bytes of a gauge: 46 in version 1 of a table, 48 in version 2.
+pub fn gauge_size(table: &[u8]) -> usize
+    requires { ⌜ Versioned (now table) ⌝ }
+    ensures { λ r. ⌜ r ≡ gaugeSize (now (table .entry)) ⌝ }
+{
+    44 + 2 * wide(table[4]) as usize
+}
+
+// Where gauge g of a table with n elements starts, counted from 0.
+pub fn place_of(table: &[u8], n: usize, g: usize) -> usize
+    requires { ⌜ GaugePlaced (now table) n g ⌝ }
+    ensures { λ r. ⌜ r ≡ gaugePlace (now (table .entry)) n g ⌝ }
+{
+    26 * n + gauge_size(table) * g + 10
+}
+
+// β of the gauge at a place, in thousandths.
+pub fn beta_at(table: &[u8], at: usize) -> u64
+    requires { ⌜ GaugeThere (now table) at ⌝ }
+    ensures { λ r. ⌜ r ≡ betaAt (now (table .entry)) at ⌝ }
+{
+    if wide(table[4]) == 2 {
+        return whole16(table, at + 46);
+    }
+    0
+}
+
 // The number of the element that gauge g stands at.
 pub fn element_of(table: &[u8], n: usize, g: usize) -> usize
-    requires { ⌜ ((n ≤ mostElements) × (g ≤ mostGauges)) × (26 * n + 46 * g + 56 ≤ length (now table)) ⌝ }
+    requires { ⌜ GaugePlaced (now table) n g ⌝ }
     ensures { λ r. ⌜ r ≡ gaugeAt (now (table .entry)) n g .element ⌝ }
 {
-    wide(table[26 * n + 46 * g + 10]) as usize
+    wide(table[place_of(table, n, g)]) as usize
 }

@@ -1,2 +1,3 @@
 pub mod RatingLaws
 pub mod LookLaws
+pub mod NoiseLaws

@@ -3,7 +3,7 @@ use Prim.Native.Nat.{ℕ, zero, suc, _+_, _-_, _≤_, _<_}
 use mathlib.Core.Bool.{Bool, true, false}
 use mathlib.Core.List.{List, [], _∷_}
 use mathlib.Core.Logic.{⊎-elim}
-use mathlib.Core.Path.{_≡_, refl, ap}
+use mathlib.Core.Path.{_≡_, refl}
 use borrow.Author.Tests.{lt-ltb, le-ltb, ltb-true, ltb-false}
 use native.Mathlib.Nat.{eq-or-lt-of-le}
 use native.Mathlib.Omega.{arith}
@@ -14,7 +14,7 @@ use Rattle.refusal.specs.Answers.{accepted}
 use Rattle.rating.specs.declared.Piece.{Piece}
 use Rattle.rating.specs.declared.Curve.{Curve}
 use Rattle.rating.specs.Rating.{piecesOf, pieceFor, onPiece, rated, noPiece, CurveFits}
-use Rattle.rating.specs.Looks.{pieceNumber, Look, lookAlong, PieceTaken}
+use Rattle.rating.specs.Looks.{pieceNumber, PieceTaken}
 
 -- the stage has reached the tops of the first i pieces
 pub record TopsReached (h : ℕ) (pieces : List Piece) (i : ℕ) : Type 0 where
@@ -33,14 +33,14 @@ found :
     (h : ℕ) (pieces : List Piece) (i : ℕ)
     → TopsReached h pieces i
     → h < getD pieces i noPiece .top .0
-    → lookAlong h pieces ≡ record { answer = onPiece h (getD pieces i noPiece); pieces = i + 1 }
-unfolding lookAlong rated pieceFor pieceNumber
+    → (rated h pieces ≡ onPiece h (getD pieces i noPiece)) × (pieceNumber h pieces ≡ i + 1)
+unfolding rated pieceFor pieceNumber
 found h [] i reached below = absurd (omega arith)
-found h (p ∷ ps) zero reached below = rw (lt-ltb _ _ below)
+found h (p ∷ ps) zero reached below = let here = lt-ltb _ _ below in (rw here, rw here)
 found h (p ∷ ps) (suc i) reached below =
     let later = found h ps i (record { at = λ j l. reached .at (suc j) (omega arith) }) below in
-    let next : suc i + 1 ≡ i + 1 + 1 = omega arith in
-    rw (le-ltb _ _ (reached .at 0 (omega arith)), next) (ap (λ l. record { answer = l .answer; pieces = l .pieces + 1 }) later)
+    let past = le-ltb _ _ (reached .at 0 (omega arith)) in
+    (rw past (later .0), rw past (omega (arith, later .1)))
 
 -- the piece that the pieces after a first one take, where the stage has reached the first one's top
 later :
@@ -86,14 +86,10 @@ module _ (h : ℕ) (curve : Curve) (i : ℕ) (used : i < curve .count) where
   passed-in-use reached top = reached-more h (piecesOf curve) i reached (rw in-use top)
 
   pub found-in-use :
-      {look : Look}
-      → TopsReached h (piecesOf curve) i
+      TopsReached h (piecesOf curve) i
       → h < getD (curve .pieces) i noPiece .top .0
-      → look .answer ≡ onPiece h (getD (curve .pieces) i noPiece)
-      → look .pieces ≡ i + 1
-      → look ≡ lookAlong h (piecesOf curve)
-  found-in-use reached below answer pieces =
-      rw (found h (piecesOf curve) i reached (rw in-use below), in-use, ← answer, ← pieces)
+      → (rated h (piecesOf curve) ≡ onPiece h (getD (curve .pieces) i noPiece)) × (pieceNumber h (piecesOf curve) ≡ i + 1)
+  found-in-use reached below = rw in-use at (found h (piecesOf curve) i reached (rw in-use below))
 
 -- an accepted curve, and a stage that rule 13 or 18 accepts
 module _ (h : ℕ) (curve : Curve) (stage : h ≤ 30000) (fits : CurveFits curve) where

@@ -1,2 +1,4 @@
 pub mod Rating
+pub mod Noise
+pub mod Bounds
 pub mod Looks

@@ -1,5 +1,5 @@
 -- Document 02, M-101: "one look along the pieces, first to last .. it answers the same z or 14 as before, and with either the number of
--- pieces it read".
+-- pieces it read"; M-105: "The curve now answers a discharge and a noise together."
 use Prim.Native.Nat.{ℕ, _+_, _-_, _≤_, _<_}
 use mathlib.Core.Bool.{cond}
 use mathlib.Core.List.{List, [], _∷_}
@@ -8,11 +8,11 @@ use lib.Dec.{ltb}
 use lib.ListN.{length, getD}
 use Rattle.refusal.specs.Refusals.{number}
 use Rattle.refusal.specs.Answers.{Answer, accepted, refused}
-use Rattle.units.specs.declared.Discharge.{Discharge}
 use Rattle.rating.specs.declared.Piece.{Piece}
 use Rattle.rating.specs.declared.RatingAnswer.{RatingAnswer}
 use Rattle.rating.specs.declared.RatingAnswer.the-variants.{Accepted, Refused}
-use Rattle.rating.specs.Rating.{pieceFor, rated, noPiece}
+use Rattle.rating.specs.Rating.{pieceFor, noPiece}
+use Rattle.rating.specs.Noise.{RatedReading}
 
 -- "the number of the piece that 01 takes", counted from 1: of "the first piece with stage below its top" (`pieceFor`). In an accepted table
 -- there is always one.
@@ -20,17 +20,14 @@ unfoldable pub pieceNumber : ℕ → List Piece → ℕ
 pieceNumber h [] = 0
 pieceNumber h (p ∷ ps) = cond (ltb h (p .top .0)) 1 (pieceNumber h ps + 1)
 
--- z or 14, and with either the number of pieces
+-- z and the noise, or 14, and with either the number of pieces
 pub record Look : Type 0 where
-  pub answer : Answer Discharge
+  pub answer : Answer RatedReading
   pub pieces : ℕ
-
-unfoldable pub lookAlong : ℕ → List Piece → Look
-lookAlong h pieces = record { answer = rated h pieces; pieces = pieceNumber h pieces }
 
 -- the number and the values of each case of the code's answer
 abbrev pub lookOf : RatingAnswer → Look
-lookOf (Accepted z pieces) = record { answer = accepted z; pieces = pieces }
+lookOf (Accepted z noise pieces) = record { answer = accepted (record { discharge = z; noise = noise }); pieces = pieces }
 lookOf (Refused r pieces) = record { answer = refused (number r); pieces = pieces }
 
 -- piece k, counted from 1, is the piece that document 01 takes: one of the pieces, the one that `pieceFor` answers; the stage is below its

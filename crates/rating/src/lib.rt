@@ -1,13 +1,16 @@
-// From a stage to a discharge, on a piece of the rating curve of a gauge.
+// From a stage to a discharge, on a piece of the rating curve of a gauge, and to the noise of a reading there.
 ghost use mathlib.Core.Path.{_≡_};
 ghost use Prim.Native.Nat.{_≤_};
+ghost use Rattle.units.specs.Units.{C};
 ghost use Rattle.units.specs.Answers.{dischargeAnswer};
 ghost use Rattle.rating.specs.Rating.{dischargeAt, onPiece, PieceFits};
-ghost use Rattle.rating.specs.Looks.{lookOf};
+ghost use Rattle.rating.specs.Noise.{noiseOf};
+ghost use Rattle.rating.specs.Bounds.{NoiseInRange};
 use refusal::Refusal;
 use units::Discharge;
 use units::DischargeAnswer;
 use units::Stage;
+use units::Variance;
 
 // b of a piece, in millimetres of either sign.
 pub enum Offset {
@@ -28,9 +31,10 @@ pub struct Curve {
     pub pieces: [Piece; 5],
 }
 
-// What one look along a curve finds: the discharge of the stage, or the refusal of it, and with either how many pieces were read.
+// What one look along a curve finds: the discharge of the stage and the noise of a reading there, or the refusal of it, and with either how
+// many pieces were read.
 pub enum RatingAnswer {
-    Accepted(Discharge, usize),
+    Accepted(Discharge, Variance, usize),
     Refused(Refusal, usize),
 }
 
@@ -62,12 +66,11 @@ pub fn rate_on_piece(stage: u64, piece: Piece) -> DischargeAnswer
     }
 }
 
-// What a piece gives for a stage, with how many pieces were read.
-pub fn with_pieces(answer: DischargeAnswer, pieces: usize) -> RatingAnswer
-    ensures { λ r. ⌜ lookOf r ≡ record { answer = dischargeAnswer answer; pieces = pieces } ⌝ }
+// The noise of a reading of z, by R and β of its gauge.
+pub fn noise_of(least: u64, beta: u64, z: u64) -> u64
+    requires { ⌜ NoiseInRange least beta × (z ≤ C) ⌝ }
+    ensures { λ r. ⌜ r ≡ noiseOf least beta z ⌝ }
 {
-    match answer {
-        DischargeAnswer::Accepted(z) => RatingAnswer::Accepted(z, pieces),
-        DischargeAnswer::Refused(refusal) => RatingAnswer::Refused(refusal, pieces),
-    }
+    let t = beta * z / 1_000_000;
+    least + t * t / 1_000
 }

@@ -5,7 +5,7 @@ use mathlib.Core.Path.{_≡_}
 use lib.Ieee.{Float, binary64, ofInt}
 use lib.IntN.{pos}
 use Rattle.refusal.specs.Answers.{Answer, accepted, refused}
-use Rattle.units.specs.declared.Discharge.{Discharge}
+use Rattle.rating.specs.Noise.{RatedReading}
 use Rattle.rating.specs.Looks.{Look}
 use Rattle.method.specs.declared.Figures.{Figures}
 use Rattle.table.specs.Tables.{TableValues}
@@ -21,7 +21,7 @@ use Rattle.river.specs.declared.Display.{Display}
 
 -- the version of the interface
 abbrev pub version : ℕ
-version = 4
+version = 5
 
 -- the number for no; 0 where the call is accepted
 unfoldable pub refusalOf : {A : Type 0} → Answer A → ℕ
@@ -77,14 +77,23 @@ pub record ForecastReplied (r : Written) (after : List ℕ) (answer : Answer (Li
   pub reply : r ≡ writtenReply (countWritten answer)
   pub numbers : after ≡ lentAfter answer before
 
--- M-101: "z or 14 .. and with either the number of pieces"; a discharge of 0 where the stage is refused
-unfoldable pub dischargeIn : Answer Discharge → ℕ
-dischargeIn (accepted z) = z .0
+-- M-101: "z or 14 .. and with either the number of pieces"; M-105: "a discharge and a noise together", both 0 where the stage is refused
+unfoldable pub dischargeIn : Answer RatedReading → ℕ
+dischargeIn (accepted r) = r .discharge .0
 dischargeIn (refused n) = 0
+
+unfoldable pub noiseIn : Answer RatedReading → ℕ
+noiseIn (accepted r) = r .noise .0
+noiseIn (refused n) = 0
 
 unfoldable pub ratingReply : Look → Rating
 ratingReply look =
-    record { refusal = refusalOf (look .answer); discharge = dischargeIn (look .answer); pieces = look .pieces }
+    record {
+      refusal = refusalOf (look .answer);
+      discharge = dischargeIn (look .answer);
+      noise = noiseIn (look .answer);
+      pieces = look .pieces;
+    }
 
 -- M-104: a discharge and its margin for the display; both 0 where a count is refused
 abbrev pub noFloat : Float

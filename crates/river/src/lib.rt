@@ -42,11 +42,12 @@ pub struct Written {
     pub count: usize,
 }
 
-// 0, or the number for no, the discharge of a stage, and how many pieces of the curve were read for it.
+// 0, or the number for no, the discharge of a stage, the noise of a reading there, and how many pieces of the curve were read for it.
 #[repr(C)]
 pub struct Rating {
     pub refusal: u64,
     pub discharge: u64,
+    pub noise: u64,
     pub pieces: usize,
 }
 
@@ -86,9 +87,10 @@ fn rating_reply(answer: RatingAnswer) -> Rating
     ensures { λ r. ⌜ r ≡ ratingReply (lookOf answer) ⌝ }
 {
     match answer {
-        RatingAnswer::Accepted(z, pieces) => Rating {
+        RatingAnswer::Accepted(z, noise, pieces) => Rating {
             refusal: 0,
             discharge: z.0,
+            noise: noise.0,
             pieces,
         },
         RatingAnswer::Refused(refusal, pieces) => {
@@ -96,6 +98,7 @@ fn rating_reply(answer: RatingAnswer) -> Rating
             Rating {
                 refusal: number,
                 discharge: 0,
+                noise: 0,
                 pieces,
             }
         }
@@ -166,7 +169,7 @@ fn no_plan(number: u64) -> TablePlan
 pub extern "C" fn river_version() -> u64
     ensures { λ r. ⌜ r ≡ version ⌝ }
 {
-    4
+    5
 }
 
 // Judges the bytes of a table: rules 1 to 7.

@@ -40,7 +40,7 @@ pub const MEDIUM_FORECAST_SPACE: usize = 520;
 pub const FORECAST_SPACE: usize = 4 * (MOST_ELEMENTS + 1) * (MOST_LEADS + 1);
 
 // The bytes of the longest table, and of the longest text that a record prints: 147 for each line.
-pub const TABLE_BYTES: usize = 10 + 26 * MOST_ELEMENTS + 46 * MOST_GAUGES;
+pub const TABLE_BYTES: usize = 10 + 26 * MOST_ELEMENTS + 48 * MOST_GAUGES;
 
 pub const TEXT_BYTES: usize = 147 * (MOST_ELEMENTS * (MOST_LEADS + 1));
 

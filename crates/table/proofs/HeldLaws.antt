@@ -3,30 +3,31 @@ use Prim.{Unit}
 use Prim.Native.Nat.{ℕ, _+_, _*_, _≤_, _<_}
 use mathlib.Core.Bool.{true}
 use mathlib.Core.List.{List}
+use mathlib.Core.Logic.{⊎-elim, inl, inr}
 use mathlib.Core.Path.{_≡_, sym, ap, _∙_}
 use borrow.Author.Tests.{leb-true, eqb-true}
 use native.Mathlib.Omega.{arith}
 use lib.Dec.{leb, eqb}
 use lib.ListN.{length}
-use Rattle.sizes.specs.Sizes.{mostElements, mostGauges}
 use Rattle.refusal.specs.Refusals.{number}
 use Rattle.refusal.specs.Answers.{accepted, refused}
 use Rattle.refusal.specs.declared.Refusal.{Refusal}
 use Rattle.refusal.proofs.RuleLaws.{not-both}
 use Rattle.fields.specs.Bytes.{number32}
-use Rattle.fields.proofs.RangeLaws.{both}
+use Rattle.fields.proofs.RangeLaws.{both, either}
 use Rattle.elements.specs.Elements.{elementAt}
 use Rattle.elements.specs.Kinds.{basinOf, damOf}
 use Rattle.elements.specs.Bounds.{ElementBounds}
-use Rattle.gauges.specs.Gauges.{gaugeAt}
+use Rattle.gauges.specs.Gauges.{tableVersion, gaugeSize, gaugePlace, gaugeAt}
+use Rattle.gauges.specs.Places.{Versioned, GaugePlaced}
 use Rattle.gauges.specs.Bounds.{GaugeKnown}
-use Rattle.gauges.proofs.GaugeLaws.{gauge-of-more}
+use Rattle.gauges.proofs.GaugeLaws.{place-before, gauge-of-more}
 use Rattle.table.specs.declared.Counts.{Counts}
 use Rattle.table.specs.declared.TableAnswer.{TableAnswer}
 use Rattle.refusal.specs.declared.Verdict.the-variants.{Accepted, Refused}
 use Rattle.refusal.specs.Verdicts.{verdictAnswer}
 use Rattle.table.specs.Tables.{tableOf}
-use Rattle.table.specs.Rules.{lengthFits, sizeFits, tableRules}
+use Rattle.table.specs.Rules.{lengthFits, versionFits, sizeFits, tableRules}
 use Rattle.table.specs.Decoded.{CountsHeld, TableRead}
 use Rattle.table.specs.Bounds.{AcceptedTable, Counted, CountedTable}
 use Rattle.table.specs.InUse.{inUse, tableIn}
@@ -51,31 +52,48 @@ module _ (bytes : List ℕ) where
   pub header-whole : lengthFits bytes ≡ true → 10 ≤ length bytes
   header-whole h = length-known h .0
 
+  -- and rule 2 one of two versions
+  pub versioned : lengthFits bytes ≡ true → versionFits bytes ≡ true → Versioned bytes
+  unfolding versionFits
+  versioned h v =
+      record {
+        header = header-whole h;
+        version = ⊎-elim (λ e. inl (eqb-true _ 1 e)) (λ e. inr (eqb-true _ 2 e)) (either (eqb (tableVersion bytes) 1) (eqb (tableVersion bytes) 2) v);
+      }
+
   pub all-there :
       lengthFits bytes ≡ true
       → sizeFits bytes (tableOf bytes) ≡ true
-      → 26 * tableOf bytes .elements + 46 * tableOf bytes .gauges + 10 ≤ length bytes
-  unfolding sizeFits
+      → gaugePlace bytes (tableOf bytes .elements) (tableOf bytes .gauges) ≤ length bytes
+  unfolding sizeFits gaugePlace
   all-there h k =
-      let size = eqb-true (number32 bytes 0) (6 + 26 * tableOf bytes .elements + 46 * tableOf bytes .gauges) k in
+      let size = eqb-true (number32 bytes 0) (6 + 26 * tableOf bytes .elements + gaugeSize bytes * tableOf bytes .gauges) k in
       omega (arith, length-known h .1)
 
   pub accepted-table : tableRules {A = Unit} bytes (accepted tt) ≡ accepted tt → AcceptedTable bytes
-  unfolding tableIn inUse
+  unfolding tableIn inUse gaugePlace
   accepted-table h =
       let k = rules-kept bytes h .header in
-      record { bounds = bounds-in-use _ (table-bounds bytes h); whole = all-there (k .length) (k .size) }
+      record {
+        versioned = versioned (k .length) (k .version);
+        bounds = bounds-in-use _ (table-bounds bytes h);
+        elements = omega (arith, all-there (k .length) (k .size));
+        gauges = all-there (k .length) (k .size);
+      }
 
 -- an element and a gauge in use: all their bytes are there, and they are in their ranges
 module _ (bytes : List ℕ) (t : AcceptedTable bytes) where
   pub element-there : {i : ℕ} → i < tableIn bytes .elements → (i ≤ 255) × (26 * i + 36 ≤ length bytes)
-  element-there l = (omega (arith, t .bounds .elementsMost), omega (arith, t .whole))
+  element-there l = (omega (arith, t .bounds .elementsMost), omega (arith, t .elements))
 
-  pub gauge-there :
-      {g : ℕ}
-      → g < tableIn bytes .gauges
-      → ((tableIn bytes .elements ≤ mostElements) × (g ≤ mostGauges)) × (26 * tableIn bytes .elements + 46 * g + 56 ≤ length bytes)
-  gauge-there l = ((t .bounds .elementsMost, omega (arith, t .bounds .gaugesMost)), omega (arith, t .whole))
+  gauge-there : {g : ℕ} → g < tableIn bytes .gauges → GaugePlaced bytes (tableIn bytes .elements) g
+  gauge-there l =
+      record {
+        versioned = t .versioned;
+        elements = t .bounds .elementsMost;
+        gauges = omega (arith, t .bounds .gaugesMost);
+        whole = omega (arith, place-before bytes (t .versioned) (tableIn bytes .elements) l, t .gauges);
+      }
 
   pub element-bounds :
       {i : ℕ} → i < tableIn bytes .elements → ElementBounds (tableIn bytes .step) (tableIn bytes .elements) i (elementAt bytes i)
@@ -86,15 +104,14 @@ module _ (bytes : List ℕ) {n m : ℕ} (t : CountedTable bytes n m) where
   pub gauge-held : (g : ℕ) → g < m → gaugeAt bytes n g ≡ tableIn bytes .gauge g
   gauge-held g l = rw (t .elements) (sym (gauge-read bytes g (omega (arith, t .gauges))))
 
-  pub gauge-in-use : (g : ℕ) → g < m → ((n ≤ mostElements) × (g ≤ mostGauges)) × (26 * n + 46 * g + 56 ≤ length bytes)
+  pub gauge-in-use : (g : ℕ) → g < m → GaugePlaced bytes n g
   gauge-in-use g l = rw (t .elements) (gauge-there bytes (t .table) (omega (arith, t .gauges)))
 
   pub gauge-known : (g : ℕ) → g < m → GaugeKnown bytes n g
   gauge-known g l =
-      let u = gauge-in-use g l in
       let b = t .table .bounds in
       record {
-        there = record { small = omega (arith, u .0 .0, u .0 .1); whole = omega (arith, u .1) };
+        placed = gauge-in-use g l;
         bounds = gauge-of-more (b .elementsMost) (rw (gauge-held g l) (b .gauge g (omega (arith, t .gauges))));
       }
 

@@ -2,3 +2,4 @@ pub mod TableLaws
 pub mod InUseLaws
 pub mod CountLaws
 pub mod HeldLaws
+pub mod SameLaws

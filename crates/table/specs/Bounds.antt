@@ -5,6 +5,8 @@ use mathlib.Core.Path.{_≡_}
 use lib.ListN.{length}
 use Rattle.sizes.specs.Sizes.{mostElements, mostLeads, mostGauges}
 use Rattle.elements.specs.Bounds.{ElementBounds}
+use Rattle.gauges.specs.Gauges.{gaugePlace}
+use Rattle.gauges.specs.Places.{Versioned}
 use Rattle.gauges.specs.Bounds.{GaugeBounds}
 use Rattle.table.specs.Tables.{TableValues}
 use Rattle.table.specs.declared.Counts.{Counts}
@@ -23,10 +25,12 @@ pub record TableBounds (t : TableValues) : Type 0 where
   pub gauge : (g : ℕ) → g < t .gauges → GaugeBounds (t .elements) (t .gauge g)
   pub rising : (g : ℕ) → g + 1 < t .gauges → t .gauge g .element < t .gauge (g + 1) .element
 
--- the bytes of an accepted table: its values in their ranges, and all its elements and gauges there
+-- the bytes of an accepted table: its version, its values in their ranges, and all its elements and gauges there
 pub record AcceptedTable (bytes : List ℕ) : Type 0 where
+  pub versioned : Versioned bytes
   pub bounds : TableBounds (tableIn bytes)
-  pub whole : 26 * tableIn bytes .elements + 46 * tableIn bytes .gauges + 10 ≤ length bytes
+  pub elements : 26 * tableIn bytes .elements + 10 ≤ length bytes
+  pub gauges : gaugePlace bytes (tableIn bytes .elements) (tableIn bytes .gauges) ≤ length bytes
 
 -- the bytes of an accepted table and its counts
 pub record Counted (bytes : List ℕ) (counts : Counts) : Type 0 where

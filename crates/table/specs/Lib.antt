@@ -4,3 +4,4 @@ pub mod Rules
 pub mod Decoded
 pub mod InUse
 pub mod Bounds
+pub mod SameNumbers

@@ -1,4 +1,4 @@
--- Document 01, The table: what its bytes say.
+-- Document 01, The table: what its bytes say; document 02, M-105: in version 1 or 2, the same values.
 use Prim.Native.Nat.{ℕ}
 use mathlib.Core.List.{List}
 use Rattle.fields.specs.Bytes.{byteAt, number16}
@@ -18,7 +18,7 @@ pub record TableValues : Type 0 where
   pub gauge : ℕ → Gauge
 
 -- "Ten bytes: length (4, the bytes after it), version (1, value 1), T step in minutes (2), L leads (1), N elements (1),
--- M gauges (1)." Elements and gauges follow.
+-- M gauges (1)." Elements and gauges follow, these by the version (`gaugeAt`).
 unfoldable pub tableOf : List ℕ → TableValues
 tableOf bytes =
     record {

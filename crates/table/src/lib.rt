@@ -2,6 +2,7 @@
 ghost use mathlib.Core.Path.{_≡_};
 ghost use Prim.Native.Nat.{_≤_};
 ghost use lib.ListN.{length};
+ghost use Rattle.gauges.specs.Places.{Versioned};
 ghost use Rattle.table.specs.Tables.{tableOf};
 ghost use Rattle.table.specs.Rules.{lengthFits, versionFits, countsFit, sizeFits};
 ghost use Rattle.table.specs.Decoded.{CountsHeld};
@@ -12,6 +13,7 @@ use fields::bytes::whole16;
 use fields::bytes::whole32;
 use fields::bytes::wide;
 use fields::range::in_range;
+use gauges::gauge_size;
 use refusal::Verdict;
 use sizes::MOST_ELEMENTS;
 use sizes::MOST_GAUGES;
@@ -49,7 +51,8 @@ pub fn version_fits(table: &[u8]) -> bool
     requires { ⌜ 10 ≤ length (now table) ⌝ }
     ensures { λ r. ⌜ r ≡ versionFits (now (table .entry)) ⌝ }
 {
-    wide(table[4]) == 1
+    let version = wide(table[4]);
+    (version == 1) | (version == 2)
 }
 
 // Rule 3: the ranges of T, L, N and M.
@@ -65,10 +68,10 @@ pub fn counts_fit(table: &[u8]) -> bool
 
 // Rule 4: the length field is that of N elements and M gauges.
 pub fn size_fits(table: &[u8]) -> bool
-    requires { ⌜ 10 ≤ length (now table) ⌝ }
+    requires { ⌜ Versioned (now table) ⌝ }
     ensures { λ r. ⌜ r ≡ sizeFits (now (table .entry)) (tableOf (now (table .entry))) ⌝ }
 {
-    whole32(table, 0) == 6 + 26 * wide(table[8]) + 46 * wide(table[9])
+    whole32(table, 0) == 6 + 26 * wide(table[8]) + gauge_size(table) as u64 * wide(table[9])
 }
 
 // The counts that the header says; basins and dams are not counted yet.

@@ -17,6 +17,7 @@ tablePart input = take (number32 input 0 + 4) input
 unfoldable pub emptyState : State
 emptyState = replicate stateNumbers 0
 
--- "A table longer than the longest that the ranges allow (2,410 bytes in all) is refused 1, a cut one too": a cut one by rule 1
+-- "A table longer than the longest that the ranges allow .. is refused 1, a cut one too": a cut one by rule 1; M-105: "the longest table is
+-- 2,442 bytes", in either version
 unfoldable pub inputAnswer : List ℕ → State → Answer State
 inputAnswer input s = rule 1 (leb (number32 input 0 + 4) tableBytes) (startAnswer (tablePart input) s)

@@ -2,7 +2,7 @@
 use mathlib.Core.Path.{_≡_, sym}
 use native.Mathlib.Omega.{arith}
 use borrow.Author.Tests.{not-true, not-false}
-use Rattle.gauges.specs.Places.{curveAt}
+use Rattle.gauges.specs.Gauges.{curveAt}
 use Rattle.curve_rules.proofs.CurveLaws.{count-low, count-high}
 use borrow.Author.Needs.{needs}
 use Rattle.curve_rules.proofs.curve_fits.Statement.{statement}

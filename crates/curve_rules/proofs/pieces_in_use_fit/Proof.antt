@@ -6,7 +6,7 @@ use borrow.Author.Needs.{needs}
 use native.Mathlib.Omega.{arith}
 use Rattle.fields.specs.Ranges.{allBelow}
 use Rattle.fields.proofs.RangeLaws.{all-none}
-use Rattle.gauges.specs.Places.{curveAt}
+use Rattle.gauges.specs.Gauges.{curveAt}
 use Rattle.gauges.specs.Rules.{pieceOf, topBefore, pieceFits}
 use Rattle.gauges.proofs.GaugeLaws.{piece-stands, top-next}
 use Rattle.curve_rules.proofs.CurveLaws.{in-use, top-none, piece-kept, piece-broken, all-broken, last-broken}

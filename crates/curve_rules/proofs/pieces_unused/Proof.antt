@@ -5,7 +5,7 @@ use mathlib.Core.Path.{_≡_, refl, sym, ap, _∙_}
 use borrow.Author.Needs.{needs}
 use native.Mathlib.Omega.{arith}
 use Rattle.fields.specs.Ranges.{allBelow}
-use Rattle.gauges.specs.Places.{curveAt}
+use Rattle.gauges.specs.Gauges.{curveAt}
 use Rattle.gauges.specs.Rules.{pieceOf, pieceFits}
 use Rattle.gauges.proofs.GaugeLaws.{piece-stands}
 use Rattle.curve_rules.proofs.CurveLaws.{not-in-use, piece-kept, piece-broken, all-broken, curve-kept}

@@ -1,47 +1,44 @@
 -- `gauge_fits` meets its contract.
 use mathlib.Core.Path.{_≡_, ap, _∙_}
+use borrow.Author.Needs.{needs}
+use native.Mathlib.Omega.{arith}
 use Rattle.units.specs.Units.{C}
 use Rattle.fields.specs.Ranges.{inRange}
 use Rattle.fields.proofs.RangeLaws.{kept, broken}
-use Rattle.gauges.specs.Gauges.{gaugeAt}
+use Rattle.gauges.specs.declared.Gauge.{Gauge}
+use Rattle.gauges.specs.Gauges.{gaugeFrom, gaugeAt}
+use Rattle.gauges.specs.Places.{GaugeThere}
 use Rattle.gauges.specs.Rules.{curveFits}
-use Rattle.gauges.proofs.GaugeLaws.{curve-stands}
-use Rattle.gauge_rules.proofs.JudgeLaws.{not-after, too-late, on-dam, noise-broken, curve-left}
-use borrow.Author.Needs.{needs}
+use Rattle.gauges.proofs.GaugeLaws.{elements-before, gauge-there}
+use Rattle.gauge_rules.proofs.JudgeLaws.{not-after, too-late, on-dam, noise-broken, beta-broken, curve-left}
 use Rattle.gauge_rules.proofs.gauge_fits.Statement.{statement}
 use Rattle.gauge_rules.proofs.gauge_fits.Tie as tie
 
-mul-at : tie.Need-mul-at
-mul-at c = search needs
+place-of-requires : tie.Need-place-of-requires
+place-of-requires c κs = search needs
 
-mul-at-2 : tie.Need-mul-at-2
-mul-at-2 c = search needs
-
-add-at : tie.Need-add-at
-add-at c = search needs
-
-add-at-2 : tie.Need-add-at-2
-add-at-2 c = search needs
+-- the place is the gauge's, and all its bytes are there
+there : (p : tie.After-place-of) → GaugeThere (p .before .before .args .table .now) (p .place-of .result)
+there p = rw (p .place-of .ensures) (gauge-there _ _ _ (p .before .before .pre .placed))
 
 shared-slice-read-wide : tie.Need-shared-slice-read-wide
-shared-slice-read-wide c = search needs
+shared-slice-read-wide c = omega (arith, there (c .before) .whole)
 
 wide-requires : tie.Need-wide-requires
 wide-requires c κs = search needs
 
+abbrev placed : tie.After-wide → tie.After-place-of
+placed w = w .before .before
+
 abbrev start : tie.After-wide → tie.Start
-start c = c .before .before .before
+start w = placed w .before .before
 
-number : (c : tie.After-wide) → c .wide .result ≡ gaugeAt (start c .args .table .now) (start c .args .n) (start c .args .g) .element
-unfolding gaugeAt
-number c = c .wide .ensures .0
+abbrev gauge : tie.After-wide → Gauge
+gauge w = gaugeAt (start w .args .table .now) (start w .args .n) (start w .args .g)
 
-noise :
-    (c : tie.After-in-range)
-    → let s = start (c .before .before .before .before .before .before) in
-    c .in-range .result ≡ inRange (gaugeAt (s .args .table .now) (s .args .n) (s .args .g) .noise .0) 1 C
-unfolding gaugeAt
-noise c = rw (← c .before .whole32 .ensures .0) (c .in-range .ensures)
+number : (w : tie.After-wide) → w .wide .result ≡ gauge w .element
+unfolding gaugeAt gaugeFrom
+number w = rw (← placed w .place-of .ensures) (w .wide .ensures .0)
 
 returns : tie.Need-returns
 returns c = not-after _ _ _ _ (start (c .before) .pre .before) (number (c .before)) (c .if1 .taken)
@@ -55,7 +52,10 @@ sub-kind-at : tie.Need-sub-kind-at
 sub-kind-at c = search needs
 
 kind-at-requires : tie.Need-kind-at-requires
-kind-at-requires c κs = search needs
+kind-at-requires c κs =
+    let p = placed (c .before .before) in
+    let s = p .before .before in
+    (omega (arith, c .if2 .left, s .pre .placed .elements), omega (arith, c .if2 .left, c .before .if1 .left, elements-before _ _ _ (s .pre .placed)))
 
 returns-3 : tie.Need-returns-3
 returns-3 c =
@@ -66,41 +66,66 @@ returns-3 c =
 add-whole32 : tie.Need-add-whole32
 add-whole32 c = search needs
 
+-- the gauge is on no dam
+abbrev free : tie.Else3 → tie.After-wide
+free c = c .before .before .before .before
+
 whole32-requires : tie.Need-whole32-requires
-whole32-requires c κs = search needs
+whole32-requires c κs = omega (arith, there (placed (free c)) .whole)
 
 in-range-requires : tie.Need-in-range-requires
 in-range-requires c κs = search needs
+
+-- R and β are the gauge's
+noise : (c : tie.After-in-range) → c .in-range .result ≡ inRange (gauge (free (c .before .before)) .noise .0) 1 C
+unfolding gaugeAt gaugeFrom
+noise c = rw (← placed (free (c .before .before)) .place-of .ensures, ← c .before .whole32 .ensures .0) (c .in-range .ensures)
+
+beta : (c : tie.After-beta-at) → c .beta-at .result ≡ gauge (free (c .before .before .before .before)) .beta
+unfolding gaugeAt gaugeFrom
+beta c = rw (← placed (free (c .before .before .before .before)) .place-of .ensures) (c .beta-at .ensures)
 
 returns-4 : tie.Need-returns-4
 returns-4 c =
     let k = c .before .before .before in
     let m = k .before .before in
-    let w = m .before .before in
+    let w = free k in
     noise-broken _ _ _ _ (start w .pre .before) (number w) (m .before .if1 .left) (m .if2 .left) (k .before .kind-at .ensures) (k .if3 .left)
     (broken (noise (c .before)) (c .if4 .taken))
 
-curve-fits-requires : tie.Need-curve-fits-requires
-curve-fits-requires c κs = search needs
+beta-at-requires : tie.Need-beta-at-requires
+beta-at-requires c κs = there (placed (free (c .before .before .before)))
 
 returns-5 : tie.Need-returns-5
 returns-5 c =
-    let r = c .before .before in
+    let b = c .before in
+    let r = b .before .before in
     let k = r .before .before in
     let m = k .before .before in
-    let w = m .before .before in
+    let w = free k in
+    beta-broken _ _ _ _ (start w .pre .before) (number w) (m .before .if1 .left) (m .if2 .left) (k .before .kind-at .ensures) (k .if3 .left)
+    (kept (noise r) (b .before .if4 .left)) (beta b) (c .if5 .taken)
+
+curve-fits-requires : tie.Need-curve-fits-requires
+curve-fits-requires c κs = there (placed (free (c .before .before .before .before .before)))
+
+returns-6 : tie.Need-returns-6
+unfolding gaugeAt gaugeFrom
+returns-6 c =
+    let b = c .before .before in
+    let r = b .before .before in
+    let k = r .before .before in
+    let m = k .before .before in
+    let w = free k in
     curve-left _ _ _ _ (start w .pre .before) (number w) (m .before .if1 .left) (m .if2 .left) (k .before .kind-at .ensures) (k .if3 .left)
-    (kept (noise r) (c .before .if4 .left))
-    (c .curve-fits .ensures ∙ ap curveFits (curve-stands _ _ _))
+    (kept (noise r) (b .before .if4 .left)) (beta b) (c .before .if5 .left)
+    (rw (← placed w .place-of .ensures) (c .curve-fits .ensures))
 
 pub gauge-fits-spec : {M : Type 1} → statement M
 gauge-fits-spec =
     tie.close
     (tie.spec
-    mul-at
-    mul-at-2
-    add-at
-    add-at-2
+    place-of-requires
     shared-slice-read-wide
     wide-requires
     returns
@@ -112,5 +137,7 @@ gauge-fits-spec =
     whole32-requires
     in-range-requires
     returns-4
+    beta-at-requires
+    returns-5
     curve-fits-requires
-    returns-5)
+    returns-6)

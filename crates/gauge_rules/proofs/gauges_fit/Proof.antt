@@ -9,8 +9,9 @@ use Rattle.fields.specs.Ranges.{allBelow}
 use Rattle.fields.proofs.RangeLaws.{all-none, all-more, all-fails}
 use Rattle.elements.specs.Elements.{elementAt}
 use Rattle.gauges.specs.Gauges.{gaugeAt}
+use Rattle.gauges.specs.Places.{GaugePlaced}
 use Rattle.gauges.specs.Rules.{elementBefore, gaugeFits}
-use Rattle.gauges.proofs.GaugeLaws.{element-next}
+use Rattle.gauges.proofs.GaugeLaws.{element-next, place-before}
 use Rattle.gauge_rules.proofs.gauges_fit.Statement.{statement}
 use Rattle.gauge_rules.proofs.gauges_fit.Tie as tie
 
@@ -25,15 +26,24 @@ loop-holds : tie.Need-loop-holds Inv-loop μ-loop
 unfolding elementBefore
 loop-holds c = (omega arith, (sym (all-none _), refl))
 
+-- the gauge that is judged is there
+placed :
+    (c : tie.In-loop Inv-loop μ-loop)
+    → let s = c .before .before .before in
+    GaugePlaced (s .args .table .now) (s .args .n) (c .before .loop .g)
+placed c =
+    let s = c .before .before .before in
+    let p = s .pre in
+    record {
+      versioned = p .0;
+      elements = p .1 .0;
+      gauges = omega (arith, p .1 .1 .0, c .loop-test .taken);
+      whole = omega (arith, place-before (s .args .table .now) (p .0) (s .args .n) (c .loop-test .taken), p .1 .1 .1);
+    }
+
 gauge-fits-requires : tie.Need-gauge-fits-requires Inv-loop μ-loop
 gauge-fits-requires c κs =
-    let p = c .before .before .before .pre in
-    record {
-      elements = p .0;
-      gauges = omega (arith, p .1 .0, c .loop-test .taken);
-      whole = omega (arith, p .1 .1, c .loop-test .taken);
-      before = c .before .loop .inv .1 .1;
-    }
+    record { placed = placed c; before = c .before .loop .inv .1 .1 }
 
 returns : tie.Need-returns Inv-loop μ-loop
 returns c =
@@ -41,7 +51,7 @@ returns c =
     sym (all-fails _ _ _ (f .before .loop-test .taken) (sym (f .gauge-fits .ensures) ∙ not-true _ (c .if1 .taken)))
 
 element-of-requires : tie.Need-element-of-requires Inv-loop μ-loop
-element-of-requires c κs = search needs
+element-of-requires c κs = placed (c .before .before)
 
 add-g : tie.Need-add-g Inv-loop μ-loop
 add-g c = search needs

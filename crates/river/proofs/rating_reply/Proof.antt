@@ -1,6 +1,6 @@
 -- `rating_reply` meets its contract.
 use borrow.Author.Needs.{needs}
-use Rattle.river.specs.Replies.{refusalOf, dischargeIn, ratingReply}
+use Rattle.river.specs.Replies.{refusalOf, dischargeIn, noiseIn, ratingReply}
 use Rattle.river.proofs.rating_reply.Statement.{statement}
 use Rattle.river.proofs.rating_reply.Tie as tie
 
@@ -14,11 +14,11 @@ code-requires : tie.Need-code-requires
 code-requires c κs = search needs
 
 returns : tie.Need-returns
-unfolding refusalOf dischargeIn ratingReply
+unfolding refusalOf dischargeIn noiseIn ratingReply
 returns c = rw (c .before .answer .given .1)
 
 returns-2 : tie.Need-returns-2
-unfolding refusalOf dischargeIn ratingReply
+unfolding refusalOf dischargeIn noiseIn ratingReply
 returns-2 c = rw (c .before .before .answer2 .given .1, c .code .ensures)
 
 pub rating-reply-spec : {M : Type 1} → statement M

@@ -1,15 +1,18 @@
 -- `look_along` meets its contract: the stage has reached the tops of the pieces that were read before.
 use Prim.Native.Nat.{_+_, _*_, _-_, _<_}
-use mathlib.Core.Path.{_≡_, ap, _∙_}
+use mathlib.Core.Path.{_≡_, sym, ap, _∙_}
 use borrow.Author.Needs.{needs}
 use native.Mathlib.Omega.{arith}
 use lib.ListN.{getD}
-use Rattle.rating.specs.Rating.{piecesOf, onPiece, noPiece}
+use Rattle.units.specs.Answers.{dischargeAnswer}
+use Rattle.rating.specs.Rating.{piecesOf, onPiece, rated, noPiece, CurveFits}
+use Rattle.rating.specs.Looks.{pieceNumber}
+use Rattle.rating.proofs.RatingLaws.{rating-fits}
 use Rattle.rating.proofs.LookLaws.{TopsReached, reached-none, passed-in-use, found-in-use, one-more}
-use Rattle.gauges.specs.Gauges.{pieceAt}
-use Rattle.gauges.specs.Places.{curveAt}
+use Rattle.gauges.specs.Gauges.{pieceAt, curveAt, gaugeFrom}
 use Rattle.gauges.specs.Rules.{pieceOf}
-use Rattle.gauges.proofs.GaugeLaws.{piece-stands}
+use Rattle.gauges.specs.Looks.{lookOn}
+use Rattle.gauges.proofs.GaugeLaws.{piece-stands, curve-stands}
 use Rattle.stage_curve.proofs.look_along.Statement.{statement}
 use Rattle.stage_curve.proofs.look_along.Tie as tie
 
@@ -20,8 +23,12 @@ Inv-loop table at stage pieces₀ pieces =
 abbrev μ-loop : tie.MeasureT-loop
 μ-loop table at stage pieces₀ pieces = curveAt table at .count - pieces
 
+-- the curve of the gauge, where it stands
+curve-fits : (s : tie.Start Inv-loop μ-loop) → CurveFits (curveAt (s .args .table .now) (s .args .at))
+curve-fits s = rw curve-stands (s .pre .1 .1 .curve)
+
 loop-holds : tie.Need-loop-holds Inv-loop μ-loop
-loop-holds c = (omega (arith, c .before .pre .1 .1 .least), reached-none _ _)
+loop-holds c = (omega (arith, curve-fits (c .before) .least), reached-none _ _)
 
 abbrev start : tie.At-loop Inv-loop μ-loop → tie.Start Inv-loop μ-loop
 start c = c .before .before
@@ -29,7 +36,7 @@ start c = c .before .before
 -- the piece at the place is the curve's
 module _ (c : tie.At-loop Inv-loop μ-loop) where
   few : c .loop .pieces < 5
-  few = omega (arith, start c .pre .1 .1 .most, c .loop .inv .0)
+  few = omega (arith, curve-fits (start c) .most, c .loop .inv .0)
 
   here :
       let s = start c in
@@ -70,21 +77,33 @@ piece-at-requires c κs =
 rate-on-piece-requires : tie.Need-rate-on-piece-requires Inv-loop μ-loop
 rate-on-piece-requires c κs =
     let l = c .before .before .before in
-    let p = start l .pre .1 in
-    (p .0, rw (c .piece-at .ensures ∙ here l) (p .1 .pieces _ (l .loop .inv .0)))
+    let s = start l in
+    (s .pre .1 .0, rw (c .piece-at .ensures ∙ here l) (curve-fits s .pieces _ (l .loop .inv .0)))
 
-with-pieces-requires : tie.Need-with-pieces-requires Inv-loop μ-loop
-with-pieces-requires c κs = search needs
-
-returns : tie.Need-returns Inv-loop μ-loop
-returns c =
-    let r = c .before in
-    let t = r .before .before in
+-- what the piece gives
+answered :
+    (c : tie.After-rate-on-piece Inv-loop μ-loop)
+    → let l = c .before .before .before .before in
+    let s = start l in
+    (dischargeAnswer (c .rate-on-piece .result) ≡ rated (s .args .stage) (piecesOf (curveAt (s .args .table .now) (s .args .at))))
+    × (pieceNumber (s .args .stage) (piecesOf (curveAt (s .args .table .now) (s .args .at))) ≡ l .loop .pieces + 1)
+answered c =
+    let t = c .before .before in
     let l = t .before .before in
     let below = rw (top (t .before)) at (t .if1 .taken) in
-    let answer = r .rate-on-piece .ensures ∙ ap (onPiece _) (r .before .piece-at .ensures ∙ here l) in
-    found-in-use _ _ _ (l .loop .inv .0) (l .loop .inv .1) below (ap (λ l. l .answer) (c .with-pieces .ensures) ∙ answer)
-    (ap (λ l. l .pieces) (c .with-pieces .ensures))
+    let found = found-in-use _ _ _ (l .loop .inv .0) (l .loop .inv .1) below in
+    (c .rate-on-piece .ensures ∙ (ap (onPiece _) (c .before .piece-at .ensures ∙ here l) ∙ sym (found .0)), found .1)
+
+with-noise-requires : tie.Need-with-noise-requires Inv-loop μ-loop
+with-noise-requires c κs =
+    let s = start (c .before .before .before .before) in
+    ((s .pre .0, s .pre .1 .1), rw (answered c .0) (rating-fits _ _))
+
+returns : tie.Need-returns Inv-loop μ-loop
+unfolding lookOn gaugeFrom
+returns c =
+    let a = answered (c .before) in
+    rw (a .1, ← a .0) (c .with-noise .ensures)
 
 loop-less : tie.Need-loop-less Inv-loop μ-loop
 loop-less c = omega (arith, c .before .before .loop .inv .0)
@@ -92,10 +111,10 @@ loop-less c = omega (arith, c .before .before .loop .inv .0)
 loop-again : tie.Need-loop-again Inv-loop μ-loop
 loop-again c =
     let l = c .before .before in
-    let p = start l .pre .1 in
+    let s = start l in
     let inv = l .loop .inv in
     let passed = rw (top (c .before)) at (c .if1 .left) in
-    (one-more _ _ (p .0) (p .1) _ (inv .0) passed, passed-in-use _ _ _ (inv .0) (inv .1) passed)
+    (one-more _ _ (s .pre .1 .0) (curve-fits s) _ (inv .0) passed, passed-in-use _ _ _ (inv .0) (inv .1) passed)
 
 pub look-along-spec : {M : Type 1} → statement M
 look-along-spec =
@@ -111,7 +130,7 @@ look-along-spec =
     whole16-requires
     piece-at-requires
     rate-on-piece-requires
-    with-pieces-requires
+    with-noise-requires
     returns
     loop-less
     loop-again)

@@ -1,15 +1,17 @@
 -- `judge` meets its contract.
 use Prim.{Unit}
-use Prim.Native.Nat.{ℕ, _+_, _*_, _≤_}
+use Prim.Native.Nat.{ℕ, _≤_}
 use mathlib.Core.Bool.{true}
-use mathlib.Core.Path.{_≡_}
+use mathlib.Core.Path.{_≡_, sym, subst₂}
 use borrow.Author.Needs.{needs}
 use borrow.Author.Tests.{not-false}
 use mathlib.Core.List.{List}
 use native.Mathlib.Omega.{arith}
 use lib.ListN.{length}
-use Rattle.sizes.specs.Sizes.{mostElements}
+use Rattle.sizes.specs.Sizes.{mostElements, mostGauges}
 use Rattle.refusal.specs.Answers.{accepted}
+use Rattle.gauges.specs.Gauges.{gaugePlace}
+use Rattle.gauges.specs.Places.{Versioned}
 use Rattle.table.specs.declared.Counts.{Counts}
 use Rattle.table.specs.Tables.{tableOf}
 use Rattle.table.specs.Rules.{elementsFit, downsFit, gaugesFit, tableRules}
@@ -25,7 +27,7 @@ use Rattle.table.proofs.TableLaws.{
 use Rattle.elements.specs.Kinds.{basinOf, damOf}
 use Rattle.fields.proofs.RangeLaws.{kept, broken}
 use Rattle.table.proofs.CountLaws.{all-counted}
-use Rattle.table.proofs.HeldLaws.{header-whole, all-there, refused-read}
+use Rattle.table.proofs.HeldLaws.{header-whole, versioned, all-there, refused-read}
 use Rattle.table_reader.proofs.judge.Statement.{statement}
 use Rattle.table_reader.proofs.judge.Tie as tie
 
@@ -58,7 +60,9 @@ returns-2 c =
     (rw (one .before .before .before .pre .0, version, broken (two .before .counts-fit .ensures) (two .if2 .taken)))
 
 size-fits-requires : tie.Need-size-fits-requires
-size-fits-requires c κs = header-whole _ (c .before .before .before .before .before .pre .0)
+size-fits-requires c κs =
+    let two = c .before .before in
+    versioned _ (two .before .before .before .pre .0) (kept (two .before .version-fits .ensures) (two .if1 .left))
 
 refused-requires-3 : tie.Need-refused-requires-3
 refused-requires-3 c κs = search needs
@@ -102,17 +106,19 @@ left c = header-left _ _ (header c)
 -- all elements and gauges are there
 there :
     (c : tie.Else3)
-    → (counts c .elements ≤ mostElements)
-    × ((counts c .gauges ≤ 16) × (26 * counts c .elements + 46 * counts c .gauges + 10 ≤ length (bytes c)))
+    → Versioned (bytes c)
+    × ((counts c .elements ≤ mostElements)
+    × ((counts c .gauges ≤ mostGauges) × (gaugePlace (bytes c) (counts c .elements) (counts c .gauges) ≤ length (bytes c))))
 there c =
     let b = counts-bounds _ (header c .counts) in
     let n = start c .pre .1 .elements in
     let m = start c .pre .1 .gauges in
     let whole = all-there _ (header c .length) (header c .size) in
-    (rw n (b .elementsMost), (rw m (b .gaugesMost), omega arith))
+    (versioned _ (header c .length) (header c .version), (rw n (b .elementsMost), (rw m (b .gaugesMost), subst₂ (λ (x y : ℕ). gaugePlace (bytes c) x y ≤ length (bytes c)) (sym n) (sym m) whole)))
 
 judge-elements-requires : tie.Need-judge-elements-requires
-judge-elements-requires c κs = (there c .0, omega (arith, there c .1 .1))
+unfolding gaugePlace
+judge-elements-requires c κs = (there c .1 .0, omega (arith, there c .1 .1 .1))
 
 -- rules 5 and 6 on the elements
 module _ (c : tie.After-judge-elements) where
