@@ -23,9 +23,10 @@ extern "C" {
 
 /* The version of this header. At its start a host compares it with the library's own, river_version(), and makes no other call where they
  * differ: an object compiled with an old header would hand a new library its memory in another shape. A stored state belongs to the version
- * that moved it. Version 4 has the layouts of 3; a reach takes the mean of the old and new outflows above it (M-103), so a state that
- * version 3 has moved is not given to it: start anew and send the records again. */
-#define RIVER_VERSION 4
+ * that moved it, or to a later one that this header names. Version 5 has the layouts of 4, but that river_rating has a noise (M-105), and moves
+ * a state as version 4 does: a state that version 4 has moved may be given to it. One that version 3 has moved may not (M-103): start anew
+ * and send the records again. */
+#define RIVER_VERSION 5
 
 enum { RIVER_MOST_PLACES = 64, RIVER_MOST_LEADS = 12, RIVER_MOST_GAUGES = 16 };
 enum { RIVER_MOST_NUMBERS = 4 * RIVER_MOST_PLACES * (RIVER_MOST_LEADS + 1) };
@@ -34,7 +35,7 @@ enum { RIVER_MOST_NUMBERS = 4 * RIVER_MOST_PLACES * (RIVER_MOST_LEADS + 1) };
 enum {
     RIVER_ACCEPTED = 0,
     RIVER_REFUSED_TABLE_LENGTH = 1,     /* the table has under 10 bytes, or its length field is not the count of bytes after it */
-    RIVER_REFUSED_TABLE_VERSION = 2,    /* the table's version is not 1 */
+    RIVER_REFUSED_TABLE_VERSION = 2,    /* the table's version is neither 1 nor 2 */
     RIVER_REFUSED_TABLE_COUNTS = 3,     /* T, L, N or M is out of range */
     RIVER_REFUSED_TABLE_SIZE = 4,       /* the table's length field does not fit N and M */
     RIVER_REFUSED_ELEMENT_FIELD = 5,    /* an element's kind or any field but down is out of range */
@@ -51,7 +52,7 @@ enum {
                                            or above 30,000 mm once rounded; judged after 13 and before 14 */
     RIVER_REFUSED_READING_RANGE = 14,   /* a stage lies below its curve, or the curve gives more than C */
     RIVER_REFUSED_ANSWER_SPACE = 15,    /* fewer numbers are lent than the forecast or the trial has */
-    RIVER_REFUSED_ABOVE_CEILING = 16    /* some figure of this call, or a number on the way to it, would pass C */
+    RIVER_REFUSED_ABOVE_CEILING = 16    /* some figure of this call, a number on the way to it or the noise of a reading would pass C */
 };
 
 /* What a figure is and how far it may lie from the run in exact fractions. */
@@ -67,7 +68,7 @@ typedef struct {
 
 /* A river's state, 450 numbers: N, accepted steps, and a place for each element; place[0] is element 1. Before a start it may hold
  * anything. Places beyond the first N and the rains of reaches and dams are neither read nor changed.
- * A state may be stored and given back later with the same table and the same RIVER_VERSION: the run then goes on, also in another process
+ * A state may be stored and given back later with the same table and a RIVER_VERSION that takes it: the run then goes on, also in another process
  * after a power cut. */
 typedef struct {
     uint64_t elements, steps;
@@ -97,11 +98,12 @@ typedef struct {
     size_t count;
 } river_written;
 
-/* What the curve of a gauge gives for a stage: the discharge, 0 where it is refused by 14, and how many pieces were read, from the first on:
- * the number (from 1) of the piece that the discharge or the 14 is of. It is 0 where no curve is looked along: at any other refusal, for a
- * gap (65535) and for a gauge that the table does not have; the discharge then is 0 too. */
+/* What the curve of a gauge gives for a stage: the discharge and the noise of a reading there, both 0 where it is refused, and how many
+ * pieces were read, from the first on: the number (from 1) of the piece that the discharge, the 14 or the 16 is of. It is 0 where no curve
+ * is looked along: at any other refusal, for a gap (65535) and for a gauge that the table does not have; discharge and noise then are 0 too.
+ * The noise is R, and with a table of version 2 as much more as beta makes of the discharge. */
 typedef struct {
-    uint64_t refusal, discharge;
+    uint64_t refusal, discharge, noise;
     size_t pieces;
 } river_rating;
 
@@ -136,7 +138,7 @@ river_written river_trial(const uint8_t *table, size_t table_bytes, const uint8_
                           uint64_t *numbers, size_t numbers_lent);
 
 /* Looks along the curve of a gauge (from 1, in the table's order) with a stage in millimetres, as a step does with a reading: rules 1 to 7,
- * 13 and 14. */
+ * 13, 14, and 16 for a noise above C. */
 river_rating river_rate(const uint8_t *table, size_t table_bytes, size_t gauge, uint64_t stage);
 
 /* A discharge and its margin, as a forecast or a trial hands them out, as floats in m3/s: each count divided once by 1,000,000, so that it
