@@ -1,7 +1,7 @@
 """Tables and records as bytes from plain Python values. Nothing is checked here: wrong values make the wrong tables that the tests need.
 
-A table is a dict: T, L, elements, gauges; an element a dict of ELEMENT_FIELDS, a gauge a dict of element, R, pieces (up to five of
-(top, a, b)) and, where it shall differ from the count of pieces, used.
+A table is a dict: T, L, elements, gauges and, where it is not 1, version; an element a dict of ELEMENT_FIELDS, a gauge a dict of element, R,
+pieces (up to five of (top, a, b)), where it shall differ from the count of pieces, used, and for version 2 beta, if it is not 0.
 """
 from struct import pack
 
@@ -24,11 +24,17 @@ def gauge_bytes(gauge):
     return head + b"".join(big_endian(top, 2) + big_endian(a, 4) + big_endian(b, 2) for top, a, b in pieces)
 
 
+def beta_bytes(gauge):
+    return big_endian(gauge.get("beta", 0), 2)
+
+
 def table_bytes(table):
-    """`version`, `N`, `M` and `length` may be given to differ from what the rest says."""
-    elements, gauges = table["elements"], table["gauges"]
-    body = b"".join(map(element_bytes, elements)) + b"".join(map(gauge_bytes, gauges))
-    head = (big_endian(table.get("version", 1), 1) + big_endian(table["T"], 2) + big_endian(table["L"], 1)
+    """`with_beta`, `N`, `M` and `length` may be given to differ from what the rest says: gauges end with β in version 2 and in no other."""
+    elements, gauges, version = table["elements"], table["gauges"], table.get("version", 1)
+    with_beta = table.get("with_beta", version == 2)
+    body = b"".join(map(element_bytes, elements))
+    body += b"".join(gauge_bytes(gauge) + beta_bytes(gauge) * with_beta for gauge in gauges)
+    head = (big_endian(version, 1) + big_endian(table["T"], 2) + big_endian(table["L"], 1)
             + big_endian(table.get("N", len(elements)), 1) + big_endian(table.get("M", len(gauges)), 1))
     return big_endian(table.get("length", 6 + len(body)), 4) + head + body
 

@@ -1,5 +1,5 @@
-"""Document 01, "The run in fractions", with M-100's dams, M-102's trials, M-103's unrounded half sums and M-104's floats, of which it takes
-the whole millimetres: the same steps with exact F, no rounding, no margins and no ceiling.
+"""Document 01, "The run in fractions", with M-100's dams, M-102's trials, M-103's unrounded half sums, M-104's floats, of which it takes the
+whole millimetres, and M-105's noise, which is given to it: the same steps with exact F, no rounding, no margins and no ceiling.
 
 It is fed an accepted table, the records of accepted steps and nothing else, decodes them by itself and keeps its own state, so that it
 shares no line with whole_numbers.py.
@@ -43,7 +43,7 @@ class ExactNumbers:
         return weight * weight * v + (1 - weight) * (1 - weight) * u
 
     def corrected(self, x, v, z, noise):
-        """A reading: gain v / (v + R), discharge x + gain x (z - x), variance v x R / (v + R)."""
+        """A reading: gain v / (v + noise), discharge x + gain x (z - x), variance v x noise / (v + noise)."""
         gain = v / (v + noise)
         return x + gain * (z - x), v * noise / (v + noise)
 
@@ -84,8 +84,8 @@ class EnclosedNumbers:
         return self.times(weight * weight, v) + self.times((1 - weight) ** 2, u)
 
     def corrected(self, x, v, z, noise):
-        # (R x X + v x z) / (v + R) and v x R / (v + R); both parts of the first and the second are monotone in v.
-        r = noise.low  # R is a whole number, so its bounds are equal
+        # With the noise R: (R x X + v x z) / (v + R) and v x R / (v + R); both parts of the first and the second are monotone in v.
+        r = noise.low  # it is a whole number, so its bounds are equal
         kept = Enclosed(r * x.low // (v.high + r), -(-r * x.high // (v.low + r)))
         taken = Enclosed(v.low * z.low // (v.low + r), -(-v.high * z.high // (v.high + r)))
         return kept + taken, Enclosed(v.low * r // (v.low + r), -(-v.high * r // (v.high + r)))
@@ -107,9 +107,11 @@ class FractionsRun:
         self.step_minutes, self.leads, count, gauge_count = unpack_from(">HBBB", table, 5)
         self.elements = list(iter_unpack(">BBHIHIIII", table[10:10 + 26 * count]))
         self.gauges = []
-        for at in range(10 + 26 * count, 10 + 26 * count + 46 * gauge_count, 46):
+        size = 48 if table[4] == 2 else 46
+        for at in range(10 + 26 * count, 10 + 26 * count + size * gauge_count, size):
             element, used, noise = unpack_from(">BBI", table, at)
-            self.gauges.append((element, noise, list(iter_unpack(">HIh", table[at + 6:at + 6 + 8 * used]))))
+            beta, = unpack_from(">H", table, at + 46) if table[4] == 2 else (0,)
+            self.gauges.append((element, noise, beta, list(iter_unpack(">HIh", table[at + 6:at + 6 + 8 * used]))))
         self.basins, self.dams = ([place for place, element in enumerate(self.elements) if element[0] == kind] for kind in (1, 3))
         self.above = [[higher for higher, element in enumerate(self.elements) if element[1] == place + 1] for place in range(count)]
         self.read = set()  # places where a reading has come in
@@ -123,7 +125,7 @@ class FractionsRun:
 
     def moved(self, figures, rain_inflow, releases, readings):
         """One step of all elements: rain_inflow(place) gives a basin's inflow and its variance; by place, releases has a dam's discharge,
-        readings z and R."""
+        readings z and its noise."""
         new = []
         for place, (kind, _, lag, _, _, _, _, system_noise, _) in enumerate(self.elements):
             if kind == 3:
@@ -145,18 +147,24 @@ class FractionsRun:
             new.append((x, v))
         return new
 
+    def given_noise(self, noise, beta, z):
+        """M-105: "from the whole-number z": the same whole number as the cabinet's."""
+        t = floor(Fraction(beta * floor(z), 1_000_000))
+        return noise + floor(Fraction(t ** 2, 1_000))
+
     def step_input(self, record):
-        """By place: the rains, the releases, and z and R of the readings."""
+        """By place: the rains, the releases, and z, unrounded, and the noise of the readings."""
         counts, version = (len(self.basins), len(self.dams), len(self.gauges)), record[2]
         fields = unpack(">{}H{}I{}{}".format(*counts, "I" if version == 2 else "H"), record[3:])
         rains, rest = dict(zip(self.basins, fields)), fields[len(self.basins):]
         releases = {place: self.numbers.of(release) for place, release in zip(self.dams, rest)}
         readings = {}
-        for (element, noise, pieces), sent in zip(self.gauges, rest[len(self.dams):]):
+        for (element, noise, beta, pieces), sent in zip(self.gauges, rest[len(self.dams):]):
             stage = stage_of(version, sent)
             if stage is not None:
                 _, a, b = next(piece for piece in pieces if stage < piece[0])
-                readings[element - 1] = Fraction(a * (stage + b) ** 2, 1_000), noise
+                z = Fraction(a * (stage + b) ** 2, 1_000)
+                readings[element - 1] = z, self.given_noise(noise, beta, z)
         return rains, releases, readings
 
     def stepped(self, rains, releases, readings):
