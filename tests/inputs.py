@@ -10,6 +10,7 @@ from typing import Callable
 from calculator.encode import big_endian, float_bits, record_bytes, table_bytes
 from calculator.floats import float_value, millimetres
 from calculator.tried_figures import EXAMPLE_INPUT as EXAMPLE
+from calculator.whole_numbers import GAUGE_BYTES
 
 YUBETSU = Path(__file__).resolve().parent.parent / "examples/yubetsu-2001/cabinet.bin"
 CEILING, GAP, FLOAT_GAP = 4_000_000_000, 65_535, 0x7FC0_0000
@@ -22,7 +23,7 @@ class Input:
     build: Callable  # of a Random, gives the bytes
     fractions: bool = True  # whether the run in fractions judges it
     pieces: int = 0  # above 0: written to the program in pieces of so many bytes
-    twin: Callable = None  # as build, with the same readings in records of version 1; the outputs must be equal
+    twin: Callable = None  # as build, with the same numbers in records or in a table of version 1; the outputs must be equal
 
 
 # ---- Rivers --------------------------------------------------------------------------------------------------------------------------
@@ -96,6 +97,18 @@ def float_river():
     return dam_table(gauges=[gauge(3, R=300), gauge(4)]), list(FLOAT_RECORDS)
 
 
+def noise_table(**changes):
+    """The small table in version 2, with another β at each gauge."""
+    table = small_table(version=2)
+    for each, beta in zip(table["gauges"], (100, 350)):
+        each |= dict(beta=beta)
+    return table | changes
+
+
+def noise_river():
+    return noise_table(), list(SMALL_RECORDS)
+
+
 def whole_input(table, records):
     return table_bytes(table) + b"".join(record_bytes(*record) for record in records)
 
@@ -147,25 +160,36 @@ def some_curve(random):
     return pieces
 
 
-def reading_of(pieces, stage):
-    """The curve's discharge at a stage; None where rule 14 refuses it. Only used to draw stages that pass."""
-    _, a, b = next(piece for piece in pieces if stage < piece[0])
+def added_noise(beta, z):
+    """What β adds to R, once more, only to draw numbers near the ceiling."""
+    return (beta * z // 1_000_000) ** 2 // 1_000
+
+
+def takes(given, stage):
+    """Whether a gauge's curve takes a stage, and its noise keeps under C. Only used to draw stages that pass."""
+    _, a, b = next(piece for piece in given["pieces"] if stage < piece[0])
     z = a * (stage + b) ** 2 // 1_000
-    return z if stage + b >= 0 and z <= CEILING else None
+    return stage + b >= 0 and z <= CEILING and given["R"] + added_noise(given.get("beta", 0), z) <= CEILING
 
 
-def some_stage(random, pieces):
-    """A stage that the curve takes, often at a break (top - 1, top) or just where the depth is 0; a gap where none was found."""
+def some_stage(random, given):
+    """A stage that a gauge takes, often at a break (top - 1, top) or just where the depth is 0; a gap where none was found."""
     for _ in range(6):
-        top, _, b = random.choice(pieces)
+        top, _, b = random.choice(given["pieces"])
         stage = random.choice((top - 1, min(top, 30_000), max(0, min(30_000, -b)), random.randint(0, 30_000), random.randint(0, 3_000)))
         stage = max(0, min(30_000, stage))
-        if reading_of(pieces, stage) is not None:
+        if takes(given, stage):
             return stage
     return GAP
 
 
-def some_table(random, count, shape, way, leads=None, gauge_count=None):
+def some_noise(random, version):
+    """R and, in version 2, β."""
+    noise = dict(R=random.choice((1, random.randint(1, 1_000), random.randint(1, 1_000_000), CEILING)))
+    return noise if version == 1 else noise | dict(beta=random.choice((0, 1, 499, 500, random.randint(0, 500), random.randint(0, 500))))
+
+
+def some_table(random, count, shape, way, leads=None, gauge_count=None, version=None):
     """A valid table. way: typical, zero, ceiling or wild values."""
     step_minutes = random.choice((1, 10, 60, 60, 60, 1_440, random.randint(1, 1_440)))
     lags = random.choice(("equal", "multiple", "multiple", "any"))
@@ -195,12 +219,11 @@ def some_table(random, count, shape, way, leads=None, gauge_count=None):
         elements.append(element)
     if gauge_count is None:
         gauge_count = random.choice((0, 1, 2, random.randint(0, 16)))
-    gauges = []
+    version = version or random.choice((1, 2))
     no_dams = [number for number, kind in enumerate(kinds, 1) if kind != 3]
-    for number in sorted(random.sample(no_dams, min(len(no_dams), gauge_count, 16))):
-        noise = random.choice((1, random.randint(1, 1_000), random.randint(1, 1_000_000), CEILING))
-        gauges.append(gauge(number, R=noise, pieces=some_curve(random)))
-    return dict(T=step_minutes, L=leads or random.choice((1, 2, 3, 12)), elements=elements, gauges=gauges)
+    gauges = [gauge(number, **some_noise(random, version), pieces=some_curve(random))
+              for number in sorted(random.sample(no_dams, min(len(no_dams), gauge_count, 16)))]
+    return dict(version=version, T=step_minutes, L=leads or random.choice((1, 2, 3, 12)), elements=elements, gauges=gauges)
 
 
 def count_of(table, kind):
@@ -219,7 +242,7 @@ def some_records(random, table, steps, way):
         else:
             rains = [random.choice((0, 1, 36, random.randint(0, 3_000), 3_000)) for _ in range(basins)]
             releases = [random.choice((0, 1, random.randint(0, CEILING), CEILING)) for _ in range(dams)]
-        stages = [GAP if random.random() < 0.4 else some_stage(random, gauge["pieces"]) for gauge in table["gauges"]]
+        stages = [GAP if random.random() < 0.4 else some_stage(random, each) for each in table["gauges"]]
         records.append((rains, stages, releases))
     return records
 
@@ -307,9 +330,9 @@ def rule_edits():
         edits.extend((rule, edit) for edit in more)
 
     right = len(table_bytes(small_table())) - 4
-    lengths = (0, 5, 6, right - 1, right + 1, right - 26, right + 26, 2_406, 2_407, 65_536 + right, 2 ** 32 - 1)
+    lengths = (0, 5, 6, right - 1, right + 1, right - 26, right + 26, 2_406, 2_407, 2_438, 2_439, 65_536 + right, 2 ** 32 - 1)
     add(1, *(with_head(length=length) for length in lengths))
-    add(2, *(with_head(version=version) for version in (0, 1, 2, 255)))
+    add(2, *(with_head(version=version) for version in (0, 1, 2, 3, 255)))
     add(3, *(with_head(T=T) for T in (0, 1, 59, 60, 61, 1_440, 1_441, 65_535)))
     add(3, *(with_head(L=L) for L in (0, 1, 12, 13, 255)))
     add(3, *(with_head(N=N) for N in (0, 1, 3, 4, 5, 64, 65, 255)))
@@ -407,6 +430,30 @@ def float_edits():
     return edits
 
 
+def noise_edits():
+    """The same of the small river in version 2: what M-105 brings."""
+    edits = []
+
+    def add(rule, *more):
+        edits.extend((rule, edit) for edit in more)
+
+    right = len(table_bytes(noise_table())) - 4
+    add(1, *(with_head(length=length) for length in (right - 4, right - 2, right - 1, right + 1, right + 2, right + 48)))
+    add(2, *(with_head(version=version, with_beta=True) for version in (0, 3, 255)))
+    # Gauges of 48 bytes in version 1 and of 46 in version 2; a gauge more or less; the length of the other version by N and M.
+    add(4, with_head(version=1, with_beta=True), with_head(with_beta=False), with_head(M=1), with_head(M=3), with_head(N=5), with_head(N=3))
+    for place in (0, 1):
+        add(7, *(with_gauge(place, beta=beta) for beta in (0, 1, 256, 499, 500, 501, 512, 1_000, 32_768, 65_535)))
+        add(7, with_gauge(place, R=0), with_gauge(place, R=CEILING + 1), with_gauge(place, used=0), with_gauge(place, used=6))
+    add(7, with_gauge(0, element=4), with_gauge(1, element=3), with_gauge(1, element=5))
+    add(7, *(three_pieces(place, **{name: 1}) for place in (3, 4) for name in ("top", "a", "b")))
+    for which in (0, 2):
+        add(14, *(with_record(which, stages=(stage, GAP)) for stage in (499, 500, 14_642, 14_643)))
+        add(16, *(with_record(which, stages=(stage, GAP)) for stage in (9_000, 14_642)), with_gauge(which // 2, R=CEILING),
+            with_gauge(which // 2, beta=500, R=3_000_000_000))
+    return edits
+
+
 def edited(edits, river=small_river):
     table, records = river()
     for edit in edits:
@@ -416,10 +463,11 @@ def edited(edits, river=small_river):
 
 def several_edits(random):
     """Two to four edits at once, of the table and the records or of the records alone: the first number in checking order that applies."""
-    lowest, river = random.choice((1, 5, 10, 10)), random.choice((small_river, small_river, dam_river, float_river))
-    edits = {small_river: rule_edits, dam_river: dam_edits, float_river: float_edits}[river]()
+    lowest, river = random.choice((1, 5, 10, 10)), random.choice((small_river, small_river, dam_river, float_river, noise_river))
+    edits = {small_river: rule_edits, dam_river: dam_edits, float_river: float_edits, noise_river: noise_edits}[river]()
     edits = [(rule, edit) for rule, edit in edits if rule >= lowest]
-    rules = random.sample(sorted({rule for rule, _ in edits}), random.choice((2, 2, 3, 4)))
+    rules = sorted({rule for rule, _ in edits})
+    rules = random.sample(rules, min(len(rules), random.choice((2, 2, 3, 4))))
     return edited([random.choice([edit for about, edit in edits if about == rule]) for rule in rules], river)
 
 
@@ -430,7 +478,10 @@ def lowest_wins():
     yield "7 in gauge 1, 6 in element 4", edited([with_gauge(0, R=0), with_element(3, down=4)])
     yield "5 in element 1, 4", edited([with_element(0, kind=0), with_head(N=5)])
     yield "7 by order, 5 in element 4", edited([with_gauge(1, element=3), with_element(3, area=1)])
-    yield "3 and 2", edited([with_head(T=0, version=2)])
+    yield "3 and 2", edited([with_head(T=0, version=3)])
+    yield "4 and 2", edited([with_head(version=3, with_beta=True)])
+    yield "5 in element 4 and 4 by the gauges of the other version", edited([with_element(3, lag=1), with_head(with_beta=True)])
+    yield "7 by a beta, 6 in element 4", edited([with_gauge(0, beta=501), with_element(3, down=4)], noise_river)
     yield "4 and 3", edited([with_head(L=0, N=5)])
     yield "14 in gauge 1, 13 in gauge 2", edited([with_record(0, stages=deep)])
     yield "13 in gauge 1, 14 in gauge 2", edited([with_record(0, stages=high)])
@@ -439,9 +490,10 @@ def lowest_wins():
     yield "11 and 10", edited([with_record(1, rains=(3_001,), version=0)])
     yield "16 in element 1, 14 in gauge 2", edited([with_element(0, area=400_000), with_record(0, rains=(3_000, 0), stages=(GAP, 29_999)),
                                                     three_pieces(2, b=-30_000), with_record(1, rains=(3_000, 0), stages=(GAP, 30_000))])
-    # 24 elements told as 1 element and 13 gauges: the length is right either way (23 x 26 = 13 x 46).
+    # 24 elements told as 1 element and 13 gauges: the length is right either way (23 x 26 = 13 x 46); in version 2 so are 25 (24 x 26 = 13 x 48).
     told = dict(T=60, L=1, N=1, M=13, elements=[reach() for _ in range(24)], gauges=[])
     yield "24 elements told as 1 and 13 gauges", whole_input(told, [((), ())])
+    yield "25 elements told as 1 and 13 gauges", whole_input(told | dict(version=2, elements=[reach() for _ in range(25)]), [((), ())])
     yield "a record of 65,535 bytes and a good one", edited([])[:-11] + big_endian(65_535, 2) + bytes([1]) * 65_535 + edited([])[-11:]
 
 
@@ -481,14 +533,14 @@ def float_orders():
 
 
 def last_places():
-    """Rules 5 to 7, 12 to 14, 17 and 18 at the last of 64 elements, 16 gauges, 63 rains, 64 releases and 16 stages: a
+    """Rules 5 to 7, 12 to 14, 17, 18 and a noise for 16 at the last of 64 elements, 16 gauges, 63 rains, 64 releases and 16 stages: a
     name, and twice a table with a record, of which the first passes and the second does not."""
-    def river(element=(), above=(), last_gauge=(), rain=0, stage=GAP, bits=None):
+    def river(element=(), above=(), last_gauge=(), rain=0, stage=GAP, bits=None, version=1):
         elements = [basin(down=64, area=1) for _ in range(62)] + [basin(down=64, area=1) | dict(above)] + [reach() | dict(element)]
         gauges = [gauge(number, pieces=[(30_001, 1, -500)]) for number in range(49, 65)]
         gauges[-1] |= dict(last_gauge)
         readings = ((GAP,) * 15 + (stage,),) if bits is None else ((FLOAT_GAP,) * 15 + (bits,), (), 2)
-        return dict(T=60, L=1, elements=elements, gauges=gauges), ((0,) * 62 + (rain,), *readings)
+        return dict(version=version, T=60, L=1, elements=elements, gauges=gauges), ((0,) * 62 + (rain,), *readings)
 
     def dams(release=0, **last):
         elements = [dam(down=64) for _ in range(63)] + [dam(**last)]
@@ -500,6 +552,8 @@ def last_places():
     yield "7, R 1 and 0 of gauge 16", river(last_gauge=dict(R=1)), river(last_gauge=dict(R=0))
     yield "7, gauge 16 after gauge 15 and at its element", river(), river(last_gauge=dict(element=63))
     yield "7, 5 and 6 pieces of five", river(last_gauge=dict(pieces=five)), river(last_gauge=dict(pieces=five, used=6))
+    yield "7, beta 500 and 501 of gauge 16", *(river(last_gauge=dict(beta=beta), version=2) for beta in (500, 501))
+    yield "16, noise C and C + 1 of gauge 16", *(river(last_gauge=dict(beta=beta, R=CEILING), stage=30_000, version=2) for beta in (36, 37))
     yield "12, last rain 3,000 and 3,001", river(rain=3_000), river(rain=3_001)
     yield "13, last stage 30,000 and 30,001", river(stage=30_000), river(stage=30_001)
     yield "14, last stage 500 and 499", river(stage=500), river(stage=499)
@@ -903,6 +957,104 @@ def mixed_floats(random):
     return data
 
 
+# ---- Tables of version 2: noise that follows the discharge -----------------------------------------------------------------------------
+
+
+def piece_of(z):
+    """a and h + b that give exactly this z."""
+    depth = next(depth for depth in range(1, 30_001) if depth ** 2 * 1_000 >= z)
+    return next((a, depth) for depth in range(depth, 30_001) if (a := -(-1_000 * z // depth ** 2)) * depth ** 2 // 1_000 == z)
+
+
+def gauged_reaches(*gauges, W=100_000_000, **rest):
+    """Reaches apart, each with one of these gauges (R, β, a, b or pieces), in version 2. With this W they all but take a low noise's z."""
+    elements = [reach(first_discharge=10 ** 6 * (k + 1), first_variance=900, W=W) for k, _ in enumerate(gauges)]
+    listed = []
+    for number, (R, beta, *curve) in enumerate(gauges, 1):
+        pieces = curve[0] if len(curve) == 1 else [(30_001, *curve)]
+        listed.append(gauge(number, R=R, beta=beta, pieces=pieces))
+    return dict(version=2, T=60, L=1, elements=elements, gauges=listed) | rest
+
+
+# (β, z) on either side of a whole t, and of a t at which [t x t / 1,000] goes up.
+SMALL_T = ((500, 1_999), (500, 2_000), (500, 63_999), (500, 64_000), (500, 89_999), (500, 90_000), (1, 999_999), (1, 10 ** 6),
+           (1, 31_999_999), (1, 32_000_000), (250, 127_999), (250, 128_000), (499, 64_128), (499, 64_129), (0, CEILING))
+# (β, a, h + b): β times the unrounded z passes a million that β times z does not.
+UNROUNDED_Z = ((499, 294_116, 1_668), (499, 801_589, 1_521), (497, 122_632, 1_514), (333, 995_007, 1_696))
+# (β, a, h + b) at whose z [t x t / 1,000] has no rest, a small one or one that is nearly 1, with t rounded down or not.
+NOISE_PLACES = ((0, 1_000_000, 2_000), (1, 1_000_000, 2_000), (1, 800_000, 200), (500, 1_000_000, 1_999), (500, 1_000_000, 63),
+                (499, 1_000_000, 1_900), (100, 999_999, 707), (37, 1, 29_500))
+BETAS = (0, 1, 2, 99, 100, 101, 250, 499, 500)
+
+
+def noise_edges():
+    """(name, table, stage): a noise of C - 1, C and C + 1, by R, at each of these places."""
+    for beta, a, depth in NOISE_PLACES:
+        for more in (-1, 0, 1):
+            R = CEILING - added_noise(beta, a * depth ** 2 // 1_000) + more
+            if R <= CEILING:
+                yield f"C {more:+}, beta {beta}, z {a * depth ** 2 // 1_000}", gauged_reaches((R, beta, a, 0)), depth
+
+
+def noise_rivers():
+    """(name, table, records): what β makes of a reading, gauge by gauge."""
+    yield "each beta", gauged_reaches(*((200, beta, 20_000, -500) for beta in BETAS)), [
+        ((), (stage,) * len(BETAS)) for stage in (500, 501, 1_500, 2_000, 5_000, 9_000, 14_642)]
+    yield "each beta, little variance", gauged_reaches(*((20, beta, 20_000, -500) for beta in BETAS), W=1_000), [
+        ((), (stage,) * len(BETAS)) for stage in (1_000, 1_500, 3_000)]
+    shown = [(beta, *piece_of(z)) for beta, z in SMALL_T]
+    yield "small t", gauged_reaches(*((1, beta, a, 0) for beta, a, _ in shown), W=10), [((), [depth for *_, depth in shown])] * 2
+    yield "unrounded z", gauged_reaches(*((5, beta, a, 0) for beta, a, _ in UNROUNDED_Z)), [((), [depth for *_, depth in UNROUNDED_Z])] * 2
+    sixteen = [(10 + k, (500, 0, 31 * k, 7)[k % 4], 5_000 + 100 * k, -100 * k) for k in range(16)]
+    rows = [[GAP if (k + turn) % 5 == 0 else 2_000 + 50 * (k + turn) for k in range(16)] for turn in range(4)]
+    yield "16 gauges", gauged_reaches(*sixteen), [((), row) for row in rows]
+    yield "16 gauges in floats", gauged_reaches(*sixteen), [in_floats(((), row)) for row in rows]
+    five = [(500, 40_000, 0), (1_000, 30_000, 100), (2_000, 20_000, 300), (20_000, 900, 30), (30_001, 300, 0)]
+    yield "five pieces", gauged_reaches((50, 300, five)), [((), (stage,)) for stage in (499, 500, 999, 1_000, 1_999, 2_000, 20_000, 30_000)]
+    yield "in the network", noise_table(), SMALL_RECORDS * 2
+    yield "between dams", dam_table(version=2, gauges=[gauge(3, R=300, beta=499), gauge(4, beta=60)]), [
+        (rains, (stage, *stages), releases) for stage, (rains, stages, releases) in zip((900, 1_600, GAP), DAM_RECORDS)]
+    yield "no gauge", dict(version=2, T=60, L=2, elements=[basin(W=3)], gauges=[]), [((5,), ()), ((0,), ())]
+
+
+PASSES = 3_000_000_000, 500, 20_000, -500  # a gauge whose noise is above C at 14,000 mm, and not at 8,000 mm
+
+
+def noise_orders():
+    """(name, table, records): 16 for a noise beside what is judged before it, and gaps, which have none. Accepted records follow."""
+    two, good = gauged_reaches(PASSES, (200, 100, 20_000, -500)), ((), (8_000, 2_000))
+    for name, stages in (("16 in gauge 1", (14_000, 2_000)), ("16 in gauge 1, a gap in gauge 2", (14_000, GAP)),
+                         ("16 in gauge 1, 14 in gauge 2", (14_000, 499)), ("16 in gauge 1, 13 in gauge 2", (14_000, 30_001)),
+                         ("16 and 14 in gauge 1", (14_643, 2_000)), ("a gap where 16 would be", (GAP, 2_000)), ("gaps alone", (GAP, GAP))):
+        yield name, two, [((), stages), good]
+    deep, high = stage_bits(400), stage_bits(14_000)
+    for name, floats in (("14", (high, deep)), ("18", (high, float_bits(30.001)))):
+        yield f"16 in gauge 1, {name} in gauge 2, floats", two, [((), floats, (), 2), good]
+    last = gauged_reaches((200, 100, 20_000, -500), PASSES)
+    yield "14 in gauge 1, 16 in gauge 2", last, [((), (499, 14_000)), ((), (2_000, 14_000)), ((), (2_000, GAP))]
+    wet = gauged_reaches() | dict(elements=[basin(area=400_000, down=2), reach(down=3), dam()], gauges=[gauge(2, PASSES[0], beta=PASSES[1])])
+    yield "12, 17 and 16", wet, [((rain,), (14_000,), (release,)) for rain, release in (
+        (3_001, CEILING + 1), (0, CEILING + 1), (0, 5), (3_000, 5))] + [((0,), (8_000,), (5,))]
+
+
+def in_table_version(version, river):
+    """The build of a river that is given or drawn, β being 0, in a table of this version."""
+    def build(random):
+        table, records = river(random) if callable(river) else river
+        return whole_input(table | dict(version=version, gauges=[each | dict(beta=0) for each in table["gauges"]]), records)
+    return build
+
+
+def tables_in_both():
+    """(name, river): each is sent in a table of version 2, and of version 1 beside it."""
+    yield "small table", small_river()
+    yield "dams", dam_river()
+    yield "floats", float_river()
+    yield from ((name, (table, records)) for name, table, records in curve_rivers())
+    yield from (("river", lambda random: some_river(random, gauge_count=random.choice((1, 2, 5)))) for _ in range(10))
+    yield "river of 64", lambda random: some_river(random, counts=(64,), steps=(2,), ways=("typical",), gauge_count=16)
+
+
 # ---- Cut, spoiled and random inputs ----------------------------------------------------------------------------------------------------
 
 
@@ -947,9 +1099,9 @@ def random_bytes(random):
 
 def random_table(random):
     """A header that passes rules 1 to 4 and noise after it."""
-    count, gauge_count = random.randint(1, 4), random.randint(0, 2)
-    size = 26 * count + 46 * gauge_count
-    head = big_endian(6 + size, 4) + bytes([1]) + big_endian(random.randint(1, 1_440), 2)
+    count, gauge_count, version = random.randint(1, 4), random.randint(0, 2), random.choice((1, 2))
+    size = 26 * count + GAUGE_BYTES[version] * gauge_count
+    head = big_endian(6 + size, 4) + bytes([version]) + big_endian(random.randint(1, 1_440), 2)
     return head + bytes([random.randint(1, 12), count, gauge_count]) + random.randbytes(size + random.randrange(40))
 
 
@@ -989,17 +1141,31 @@ def mixed_records(random):
 # ---- The longest table, the most steps, the most records ---------------------------------------------------------------------------------
 
 
-def longest_river(random, extra=b"", length=2_406, steps=1, leads=1):
-    table = some_table(random, 64, random.choice(SHAPES), "typical", leads=leads, gauge_count=16)
+def longest_river(random, version=2, size=None, told=None, steps=1, leads=1):
+    """64 elements and 16 gauges, in version 1 2,410 bytes and in version 2 2,442; cut or with zeros added to another size, which the length
+    tells unless another is told."""
+    table = some_table(random, 64, random.choice(SHAPES), "typical", leads=leads, gauge_count=16, version=version)
     records = some_records(random, table, steps, "typical")
-    data = table_bytes(table | dict(length=length))
-    return data + extra + b"".join(record_bytes(*record) for record in records)
+    data = table_bytes(table)
+    size = size or len(data)
+    return big_endian((told or size) - 4, 4) + (data[4:] + bytes(40))[:size - 4] + b"".join(record_bytes(*record) for record in records)
 
 
-def sixty_five_elements(random):
-    """65 elements and no gauge fit into 2,410 bytes: refused 3. With 16 gauges they do not: refused 1."""
-    gauges = [gauge(number) for number in range(1, random.choice((1, 17)))]
-    return whole_input(dict(T=60, L=1, elements=[reach() for _ in range(65)], gauges=gauges), [((), ())])
+# (version, elements, gauges) of tables with too many elements. With 2,442 bytes or fewer they are refused 3, with more 1.
+TOO_MANY = ((1, 65, 0), (1, 65, 16), (1, 67, 15), (1, 66, 16), (2, 65, 0), (2, 65, 15), (2, 65, 16), (2, 72, 11))
+
+
+def too_many_elements(version, count, gauge_count):
+    gauges = [gauge(number) for number in range(1, gauge_count + 1)]
+    return whole_input(dict(version=version, T=60, L=1, elements=[reach() for _ in range(count)], gauges=gauges), [((), ())])
+
+
+def table_sizes():
+    """(name, build): 64 elements and 16 gauges in tables of all sizes about the longest: the one that fits is taken, others have 4 up to 2,442
+    bytes in all and 1 above."""
+    for version, sizes in ((1, (2_409, 2_410, 2_411, 2_412, 2_441, 2_442, 2_443)), (2, (2_410, 2_411, 2_441, 2_442, 2_443, 2_444))):
+        for size in sizes:
+            yield f"version {version}, {size:,} bytes", lambda random, version=version, size=size: longest_river(random, version, size)
 
 
 def ten_thousand_steps(last, steps=10_000):
@@ -1096,11 +1262,14 @@ def inputs(long=False):
     add("longest table, 12 leads", lambda random: longest_river(random, leads=12, steps=2))
     add("longest table in pieces", lambda random: longest_river(random, steps=3), pieces=997)
     add("longest table cut", lambda random: longest_river(random, steps=0)[:-1])
-    add("one byte more", lambda random: longest_river(random, extra=b"\0", length=2_407))
-    add("one byte more, not there", lambda random: longest_river(random, length=2_407, steps=0))
-    add("one byte more, not counted", lambda random: longest_river(random, extra=b"\0"))
-    for _ in range(4):
-        add("65 elements", sixty_five_elements)
+    add("longest table of version 1 cut", lambda random: longest_river(random, version=1, steps=0)[:-1])
+    add("one byte more", lambda random: longest_river(random, size=2_443))
+    add("one byte more, not there", lambda random: longest_river(random, told=2_443, steps=0))
+    add("one byte more, not counted", lambda random: longest_river(random, size=2_443, told=2_442))
+    for name, build in table_sizes():
+        add(f"size of table: {name}", build)
+    for version, count, gauge_count in TOO_MANY:
+        add(f"{count} elements and {gauge_count} gauges in version {version}", fixed(too_many_elements(version, count, gauge_count)))
     for pieces in (1, 2, 3, 7):
         add("in pieces", fixed(two), pieces=pieces)
     good = record_bytes((10,), (1_000,))
@@ -1123,6 +1292,7 @@ def inputs(long=False):
     for name, table, records in curve_rivers():
         add(f"curve: {name}", fixed(whole_input(table, records)))
     add_floats(add, long)
+    add_noises(add, long)
     return found
 
 
@@ -1149,6 +1319,23 @@ def add_floats(add, long):
             add("float: all halves", fixed(whole_input(float_table(16), float_rows(bits[at:at + 8_000]))))
         for _ in range(40):
             add("float: any bits", lambda random: whole_input(float_table(), float_rows([some_trouble(random) for _ in range(1_000)], 1)))
+
+
+def add_noises(add, long):
+    for name, table, records in (*noise_rivers(), *noise_orders()):
+        add(f"noise: {name}", fixed(whole_input(table, records)))
+    for name, table, stage in noise_edges():
+        add(f"noise: {name}", fixed(whole_input(table, [((), (stage,)), ((), (GAP,))])))
+    for name, river in tables_in_both():
+        add(f"noise: {name} as in version 1", in_table_version(2, river), twin=in_table_version(1, river))
+    for rule, edit in noise_edits():
+        add(f"rule {rule}", lambda random, edit=edit: edited([edit], noise_river))
+    data, end = edited([], noise_river), len(table_bytes(noise_table()))
+    betas = [end - 50, end - 49, end - 2, end - 1]
+    for at in range(end) if long else sorted({*range(end - 96, end, 7), *betas}):
+        add(f"noise river cut at {at}", fixed(data[:at]))
+        for value in spoiled_values(data[at])[:None if long or at in betas else 1]:
+            add(f"noise river spoiled at {at} by {value}", fixed(spoiled(data, at, value)))
 
 
 def random_for(seed, number):

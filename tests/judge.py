@@ -7,7 +7,8 @@
              n being step count plus lead and c the count of elements at or above
 
 form, fractions and limit look at the program's own lines and at the input, never at the whole-number calculator. A fifth check, versions,
-looks at two outputs: the same readings in records of either version print the same lines (M-104).
+looks at two outputs: the same readings in records of either version print the same lines (M-104), and so do the same numbers in a table of
+either version, β being 0 (M-105).
 """
 import re
 
@@ -82,13 +83,13 @@ def close(numbers, figure, exact, margin):
         return None
 
 
-def check_figures(data, output, numbers):
+def check_figures(data, output, numbers, run_of=FractionsRun):
     """The checks fractions and limit over a whole output: a dict of check to its first complaint."""
     table = cut_table(data)
     found, run, above = {}, None, None
     for answer in answers(data, output):
         if run is None:
-            run = FractionsRun(table, numbers)
+            run = run_of(table, numbers)
             above = run.places_above()
         if answer[0] == "refused":
             if answer[3]:
@@ -137,7 +138,7 @@ def judge(data, output, expected, fractions=True):
 
 
 def version_complaint(output, other):
-    """The check versions: a dict as judge gives it, of the output for records of version 2 beside that for version 1."""
+    """The check versions: a dict as judge gives it, of the output for records or a table of version 2 beside that for version 1."""
     lines, others = output.split(b"\n"), other.split(b"\n")
     apart = next((line for line, pair in enumerate(zip(lines, others), 1) if pair[0] != pair[1]), min(len(lines), len(others)))
     return {} if lines == others else {"versions": f"differs from version 1 at line {apart}"}
