@@ -2,11 +2,12 @@
 """Writes a bench input to standard output: a table and its records, nothing of which is refused.
 
     python3 bench/make_input.py [--elements 64] [--gauges 16] [--leads 12] [--steps 1000] [--seed 1] [--pieces 3] [--gaps 0.1] [--version 1]
+                                [--beta 100]
 
 The river: every second element a basin, which drains into a reach; the reaches form a tree that joins two by two and ends in one outlet.
 A single element is a basin. Gauges stand on reaches spread over the tree; their curves have three pieces or five, each of which is read on
 the way. Rain comes in storms, stages follow smoothly, one stage in ten (or another share) is a gap. In version 2 the records have the same
-stages as floats.
+stages as floats. Where a beta is given, the table is of version 2 and every gauge has this beta.
 """
 import argparse
 import sys
@@ -70,9 +71,12 @@ def main():
     parser.add_argument("--pieces", type=int, default=3, choices=sorted(CURVES))
     parser.add_argument("--gaps", type=float, default=0.1)
     parser.add_argument("--version", type=int, default=1, choices=(1, 2))
+    parser.add_argument("--beta", type=int)
     options = parser.parse_args()
     random = Random(options.seed)
     table = river(random, options.elements, options.gauges, options.leads, options.pieces)
+    if options.beta is not None:
+        table |= dict(version=2, gauges=[each | dict(beta=options.beta) for each in table["gauges"]])
     sys.stdout.buffer.write(table_bytes(table))
     for rains, stages in records(random, table, options.steps, options.gaps):
         if options.version == 2:

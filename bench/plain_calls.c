@@ -94,8 +94,9 @@ river_rating NAMED(rate)(const uint8_t *table, size_t table_bytes, size_t gauge,
     Table t;
     u32 refusal = read_table(&t, table, table_bytes);
     if (!refusal && stage > HIGHEST_STAGE && stage != GAP) refusal = 13;
-    if (refusal || stage == GAP || gauge < 1 || gauge > t.gauge_count) return (river_rating){refusal, 0, 0};
-    return look(t.gauges + GAUGE_BYTES * (gauge - 1), (u32)stage);
+    if (refusal || stage == GAP || gauge < 1 || gauge > t.gauge_count) return (river_rating){refusal, 0, 0, 0};
+    river_rating found = look(&t, t.gauges + t.gauge_bytes * (gauge - 1), (u32)stage);
+    return found.noise > CEILING ? (river_rating){16, 0, 0, found.pieces} : found;
 }
 
 /* A count of at most C, which is exact as a float, in m3/s. */
