@@ -2,7 +2,8 @@
 
 cases() lists them; nothing is built before it is asked for. What standard input can reach is tried in inputs.py; here is the rest:
 states that no run brings about, lent space, places that no call may touch, each of rule 16's numbers on the ceiling, old and new outflows
-above a reach, looks along a curve, trials of a step, floats in steps and trials, and what a display gets.
+above a reach, looks along a curve with their noise, trials of a step, floats in steps and trials, tables of either version, and what a
+display gets.
 """
 from dataclasses import dataclass, replace
 from itertools import product
@@ -11,12 +12,13 @@ from typing import Callable
 from calculator.encode import big_endian, record_bytes, table_bytes
 from calculator.whole_numbers import (BASIN, CEILING, GAP, MOST_ELEMENTS, RULES, SCALE, Figures, Refused, Rules, State, decode_table, start,
                                       step)
-from inputs import (ABOVE_ALL, BYTE_ORDERS, CURVE_EDGES, DAM_RECORDS, EXACT_HALVES, FIVE_TOPS, FLOAT_GAP, FLOAT_RECORDS, HALVES_OF_THIRTEEN,
-                    NEAR_30_METRES, SHAPES, SMALL_RECORDS, SPECIAL, WAYS, at_each_gauge, basin, count_of, curve_rivers, dam, dam_edits,
-                    dam_river, dam_table, float_bits, float_edits, float_river, float_rivers, float_rows, float_table, gauge, in_floats,
-                    last_places, mean_inflow_rivers, near_halves, rule_edits, reach, river_of_curves, small_river, small_table,
-                    some_curve, some_records, some_stage, some_table, some_trouble, spoiled, spoiled_values, stage_bits, stages_of,
-                    taking_curve)
+from inputs import (ABOVE_ALL, BYTE_ORDERS, CURVE_EDGES, CURVE_NOISE, DAM_RECORDS, EXACT_HALVES, FIVE_TOPS, FLOAT_GAP, FLOAT_RECORDS,
+                    HALVES_OF_THIRTEEN, NEAR_30_METRES, NOISE_PLACES, PASSES, SHAPES, SMALL_RECORDS, SMALL_T, SPECIAL, WAYS, added_noise,
+                    at_each_gauge, basin, count_of, curve_rivers, dam, dam_edits, dam_river, dam_table, float_bits, float_edits, float_river,
+                    float_rivers, float_rows, float_table, gauge, gauged_reaches, in_floats, last_places, mean_inflow_rivers, near_halves,
+                    noise_edges, noise_edits, noise_orders, noise_river, noise_rivers, noise_table, piece_of, rule_edits, reach,
+                    river_of_curves, small_river, small_table, some_curve, some_records, some_stage, some_table, some_trouble, spoiled,
+                    spoiled_values, stage_bits, stages_of, taking_curve)
 
 LARGEST = 2 ** 64 - 1
 ROOM_FOR_ALL = 4 * 64 * 13
@@ -32,7 +34,7 @@ class Call:
     lent: tuple = ()  # the lent numbers before the call
     side: int = 0  # 0: bytes, state and numbers stand right before a page without access, 1: right after one
     asked: tuple = (0, 0)  # gauge and stage of a rate, discharge and margin of a show
-    twin: bool = False  # the call before has the same readings in a record of the other version: the replies must be equal
+    twin: bool = False  # the call before has the same readings, or table, in the other version: the replies must be equal
 
 
 @dataclass
@@ -266,10 +268,10 @@ class Watched(Rules):
         return moved
 
     def correct(self, figures, z, noise):
-        total = figures.variance + noise
-        gain_margin = min(SCALE, SCALE * figures.variance_margin // total + 2)
-        discharge, margin = self.blend(figures.discharge, figures.margin, z, 1, SCALE - SCALE * figures.variance // total, gain_margin)
-        corrected = Figures(discharge, margin, figures.variance * noise // total, figures.variance_margin * noise // total + 2)
+        self.watch("noise", noise)
+        gain, gain_margin = self.gain(figures, noise)
+        discharge, margin = self.blend(figures.discharge, figures.margin, z, 1, SCALE - gain, gain_margin)
+        corrected = Figures(discharge, margin, *self.corrected_variance(figures, noise))
         self.watch_all("corrected", corrected)
         return corrected
 
@@ -407,6 +409,13 @@ def rain_edges(random):
         yield Call(f"largest basin, step count {steps}, rains {rains}", "forecast", huge, state_of(1, steps, rains=[rains]), b"", (1,) * 9)
 
 
+def noise_ceiling(random):
+    """The noise of a reading, which is judged even where the element's variance is 0."""
+    for name, table, stage in noise_edges():
+        for figures in ((5_000_000, 6, 7_000, 8), (0, 0, 0, 0)):
+            yield Call(name, "step", table_bytes(table), state_of(1, 3, [figures]), record_bytes((), (stage,)), side=random.randrange(2))
+
+
 def all_at_ceiling(random):
     """The numbers that stay below C whatever the state (margins of a and b, variance margin, a corrected variance's): as high as they go."""
     for lag in (1, 2, 60_000):
@@ -450,7 +459,7 @@ def cut_calls(random):
     yield Call("record of 65,538 bytes, length 0", "step", SMALL, state, big_endian(0, 2) + bytes(65_536))
     for size in range(4, 10):
         yield Call(f"table cut at {size}, as its length says", "start", big_endian(size - 4, 4) + SMALL[4:size], state)
-    yield Call("table cut and of version 2", "start", spoiled(SMALL, 4, 2)[:-1], state)
+    yield Call("table cut and of version 3", "start", spoiled(SMALL, 4, 3)[:-1], state)
 
 
 def spoiled_calls(random):
@@ -659,8 +668,9 @@ def looks(name, random, asked):
     for at in range(0, len(asked), 16):
         group = asked[at:at + 16]
         table = table_bytes(river_of_curves([pieces for pieces, _, _ in group]))
-        for number, (_, stage, answer) in enumerate(group, 1):
-            assert RULES.rate(table, number, stage) == answer, f"{name}: {group[number - 1]}"
+        for number, (_, stage, (refusal, z, pieces)) in enumerate(group, 1):
+            noise = 0 if refusal else CURVE_NOISE
+            assert RULES.rate(table, number, stage) == (refusal, z, noise, pieces), f"{name}: {group[number - 1]}"
         yield from rate_calls(name, random, table, [(number, stage) for number, (_, stage, _) in enumerate(group, 1)])
 
 
@@ -758,7 +768,7 @@ def rates_by_stage(random):
 
 def rates_of_refused(random):
     """Tables on every condition of rules 1 to 7 and just off it, also with a stage of 13, a gap, and a gauge that is not there."""
-    for river, edits in ((small_river, rule_edits()), (dam_river, dam_edits())):
+    for river, edits in ((small_river, rule_edits()), (dam_river, dam_edits()), (noise_river, noise_edits())):
         for rule, edit in ((rule, edit) for rule, edit in edits if rule <= 7):
             table, records = river()
             edit(table, records)
@@ -974,9 +984,10 @@ def refused_by_each():
 
     right = recorded()
     yield 0, DAMS, right, state
-    for number, table in ((1, DAMS[:-1]), (2, edited(version=2)), (3, edited(T=0)), (4, edited(N=6)), (5, edited(element=dict(lag=0))),
+    for number, table in ((1, DAMS[:-1]), (2, edited(version=3)), (3, edited(T=0)), (4, edited(N=6)), (5, edited(element=dict(lag=0))),
                           (6, edited(element=dict(down=1))), (7, edited(gauge=dict(R=0))), (16, edited(element=dict(area=400_000)))):
         yield number, table, right, state
+    yield 16, edited(version=2, gauge=dict(R=PASSES[0], beta=PASSES[1])), recorded(stages=(14_000,)), state
     for number, steps in ((8, 10_001), (9, 10_000), (0, 9_999)):
         yield number, DAMS, right, replace(state, steps=steps)
     for number, record in ((10, right[:-1]), (11, recorded(version=3)), (12, recorded(rains=(0, 3_001))),
@@ -1129,7 +1140,7 @@ def random_independence(random):
         state = replace(fitting_state(random, data, random.choice(("typical", "small"))), steps=random.choice((0, 3, 9_999)))
         found = []
         for number, each in enumerate(table["gauges"]):
-            stages = [some_stage(random, each["pieces"]) for _ in range(2)] + [GAP]
+            stages = [some_stage(random, each) for _ in range(2)] + [GAP]
             found += reading_trials(random, data, state, fields, number, stages) or []
         if found:
             return found
@@ -1139,6 +1150,7 @@ def trial_cases():
     edits = [(rule, edited_calls(edit)) for rule, edit in rule_edits()]
     edits += [(rule, edited_calls(edit, dam_river)) for rule, edit in dam_edits()]
     edits += [(rule, edited_calls(edit, float_river)) for rule, edit in float_edits()]
+    edits += [(rule, edited_calls(edit, noise_river)) for rule, edit in noise_edits()]
     for rule in sorted({rule for rule, _ in edits}):
         yield f"rule {rule}", trials_of(*(build for about, build in edits if about == rule))
     yield "order of 15", trial_orders
@@ -1154,6 +1166,7 @@ def trial_cases():
             yield f"ceiling, {name.removesuffix(', step')}", trials_of(build)
     yield from ((f"float, {name}", trials_of(build)) for name, build in float_cases() if name != "random")
     yield from (("float, random", trials_of(random_floats, more=(-1, 0, 0, 3))) for _ in range(10))
+    yield "noise, in little space", trials_of(*(steps_of(table, records) for _, table, records in noise_orders()), more=(-1,))
     yield "last places", trials_of(last_place_calls)
     yield "cut and spoiled", cut_trials
     for name, build, count in (("several refusals", several_refusals, 6), ("random", random_calls(), 150),
@@ -1171,6 +1184,7 @@ def trial_run_cases():
     yield from (("run", trial_runs()) for _ in range(20))
     yield "run of 12", trial_runs(12)
     yield from ((f"curve, {name}", trials_of(steps_of(table, records))) for name, table, records in curve_rivers())
+    yield from ((f"noise, {name}", trials_of(steps_of(table, records))) for name, table, records in (*noise_rivers(), *noise_orders()))
 
 
 # ---- Floats ------------------------------------------------------------------------------------------------------------------------------
@@ -1279,6 +1293,137 @@ def both_version_cases():
             yield f"{name} as in version 1, {entry}", in_both_versions(river, entry)
 
 
+# ---- Tables of version 2: noise that follows the discharge -------------------------------------------------------------------------------
+
+NOISE = table_bytes(noise_table())
+
+
+def noise_looks(name, random, asked):
+    """A rate of each (R, β, pieces, stage, answer), the answer being worked out beside the calculator; 16 gauges to a table."""
+    asked = list(asked)
+    for at in range(0, len(asked), 16):
+        group = asked[at:at + 16]
+        table = table_bytes(gauged_reaches(*(given for *given, _, _ in group)))
+        for number, (*_, stage, answer) in enumerate(group, 1):
+            assert RULES.rate(table, number, stage) == answer, f"{name}: {group[number - 1]}"
+        yield from rate_calls(name, random, table, [(number, stage) for number, (*_, stage, _) in enumerate(group, 1)])
+
+
+def looks_at_small_t(random):
+    """β z on either side of whole t, and t on either side of the next whole noise."""
+    curves = [(beta, z, *piece_of(z)) for beta, z in SMALL_T]
+    return noise_looks("small t", random, ((R, beta, [(30_001, a, 0)], depth, (0, z, R + added_noise(beta, z), 1))
+                                           for R in (1, 3_000_000) for beta, z, a, depth in curves))
+
+
+def looks_at_noise_ceiling(random):
+    """A noise of C - 1, C and C + 1 on each of five pieces, and the largest that there is; with 16 the pieces are told."""
+    def asked():
+        for place, top in enumerate(FIVE_TOPS[1]):
+            for beta, a, depth in NOISE_PLACES:
+                z, stage = a * depth ** 2 // 1_000, top - 1
+                pieces = [(each, *((a, depth - stage) if which == place else (100, 0))) for which, each in enumerate(FIVE_TOPS[1])]
+                for noise in (CEILING - 1, CEILING, CEILING + 1):
+                    R = noise - added_noise(beta, z)
+                    if R <= CEILING and depth - stage <= 30_000:
+                        yield R, beta, pieces, stage, (0, z, noise, place + 1) if noise <= CEILING else (16, 0, 0, place + 1)
+        for R in (1, CEILING):
+            yield R, 500, [(30_001, 1_000_000, 0)], 2_000, (16, 0, 0, 1)
+
+    return noise_looks("ceiling", random, asked())
+
+
+def looks_at_fourteen(random):
+    """14 before 16: z above C, or a stage below the curve, at a gauge whose noise would pass C as well."""
+    return noise_looks("14", random, ((R, 500, [(100, *ABOVE_ALL), (30_001, a, b)], stage, answer) for R in (1, CEILING)
+                                      for a, b, stage, answer in ((1_000_000, 0, 2_001, (14, 0, 0, 2)), (268_742, 0, 3_858, (14, 0, 0, 2)),
+                                                                  (1_000_000, -2_000, 1_999, (14, 0, 0, 2)), (9, 0, 50, (14, 0, 0, 1)))))
+
+
+def rates_without_noise(random):
+    """A gap, a stage of 13 and gauges that are not there, where a noise would pass C."""
+    table = table_bytes(gauged_reaches(PASSES, (200, 100, 20_000, -500)))
+    return rate_calls("no noise", random, table, [(number, stage) for number in (0, 1, 2, 3, LARGEST) for stage in (14_000, GAP, 30_001, 65_534)])
+
+
+def rates_of_largest_noise(random):
+    """64 elements and 16 gauges of five pieces in version 2, each with its own β: each gauge on each of its pieces."""
+    elements = [basin(down=64, area=1) for _ in range(63)] + [reach()]
+    gauges = [gauge(49 + k, beta=33 * k, pieces=taking_curve(k, FIVE_TOPS[k % 4])) for k in range(16)]
+    asked = [(k + 1, stage) for k in range(16) for top in FIVE_TOPS[k % 4] for stage in (top - 1, min(30_000, top))]
+    return rate_calls("largest", random, table_bytes(dict(version=2, T=60, L=12, elements=elements, gauges=gauges)), [*asked, (17, 100)])
+
+
+def random_noise_looks(random):
+    """Any gauges of version 2 with stages that they take, and others."""
+    table = some_table(random, 16, "chain", "typical", gauge_count=16, version=2)
+    for number, each in enumerate(table["gauges"], 1):
+        yield from rate_calls("random", random, table_bytes(table), [(number, some_stage(random, each)), (number, random.randint(0, 30_000))])
+
+
+def noise_tables_spoiled(random):
+    """A table of version 2 cut at each byte, as its length says and not, and spoiled."""
+    state, record, entries = moved_state(random, *noise_river()), SMALL_RECORD, ("start", "step", "forecast", "check", "rate")
+    for at in range(10, len(NOISE), 3):
+        value = random.choice(spoiled_values(NOISE[at]))
+        for name, table in (("cut", NOISE[:at]), ("cut, as its length says", big_endian(at - 4, 4) + NOISE[4:at]),
+                            (f"spoiled by {value}", spoiled(NOISE, at, value))):
+            yield Call(f"table {name} at {at}", random.choice(entries), table, state, record, lent_numbers(random, 208), random.randrange(2),
+                       asked=(random.choice((1, 2)), 1_500))
+    for extra in (1, 2, 4, 48):
+        yield Call(f"table longer by {extra}", "check", big_endian(len(NOISE) - 4 + extra, 4) + NOISE[4:] + bytes(extra), state)
+
+
+def table_versions(random):
+    """Every version byte about 1 and 2, with gauges of either length, by every entry."""
+    state, record = moved_state(random, *noise_river()), SMALL_RECORD
+    for version in (0, 1, 2, 3, 4, 127, 129, 130, 255):
+        for with_beta in (False, True):
+            table = table_bytes(noise_table(version=version, with_beta=with_beta))
+            for entry in ("start", "step", "forecast", "trial", "check", "rate"):
+                yield Call(f"version {version}, {'48' if with_beta else '46'} bytes a gauge, {entry}", entry, table, state, record,
+                           lent_numbers(random, 50), random.randrange(2), asked=(2, 1_500))
+
+
+def in_either_table(random, table, records):
+    """Each call on the table in version 1, and in version 2 with β 0: check, start, rates, and by record a trial, a step and a forecast."""
+    one, two = (table_bytes(table | dict(version=version, gauges=[each | dict(beta=0) for each in table["gauges"]])) for version in (1, 2))
+
+    def both_tables(entry, state, record=b"", room=0, asked=(0, 0)):
+        call = Call(f"version 1, {entry}", entry, one, state, record, lent_numbers(random, room), random.randrange(2), asked)
+        return [call, replace(call, name=f"version 2, {entry}", table=two, twin=True)]
+
+    state, need = noise_state(random), 4 * len(table["elements"])
+    yield from both_tables("check", state) + both_tables("start", state)
+    for number, each in enumerate(table["gauges"], 1):
+        yield from both_tables("rate", state, asked=(number, random.choice((some_stage(random, each), random.randint(0, 30_000)))))
+    state = start(one, state)
+    for record in (record_bytes(*record) for record in records):
+        yield from both_tables("trial", state, record, need + random.choice((-1, 0, 0, 3))) + both_tables("step", state, record)
+        try:
+            state = step(one, record, state)
+        except Refused:
+            continue
+        yield from both_tables("forecast", state, room=need * (table["L"] + 1))
+
+
+def random_in_either_table(random):
+    table = some_table(random, random.choice((1, 3, 5)), random.choice(SHAPES), random.choice(WAYS), version=1)
+    return in_either_table(random, table, some_records(random, table, 2, "typical"))
+
+
+def noise_cases():
+    for name, build in (("rate, small t", looks_at_small_t), ("rate, C and C + 1", looks_at_noise_ceiling), ("rate, 14", looks_at_fourteen),
+                        ("rate, no reading", rates_without_noise), ("rate, largest table", rates_of_largest_noise),
+                        ("spoiled tables", noise_tables_spoiled), ("table versions", table_versions)):
+        yield name, build
+    yield from (("rate, random", random_noise_looks) for _ in range(6))
+    for name, river in (("small river", small_river()), ("dams", dam_river()), ("floats", float_river()),
+                        *((name, (table, records[:8])) for name, table, records in curve_rivers())):
+        yield f"{name} as in version 1", lambda random, river=river: in_either_table(random, *river)
+    yield from (("random as in version 1", random_in_either_table) for _ in range(12))
+
+
 # ---- What a display gets -----------------------------------------------------------------------------------------------------------------
 
 
@@ -1328,7 +1473,7 @@ def check_calls(random):
     for size in range(len(SMALL) + 1):
         yield Call(f"table cut at {size}", "check", SMALL[:size], nothing, side=random.randrange(2))
     yield Call("floats", "check", FLOATS, nothing)
-    for river, edits in ((small_river, rule_edits()), (dam_river, dam_edits())):
+    for river, edits in ((small_river, rule_edits()), (dam_river, dam_edits()), (noise_river, noise_edits())):
         for _, edit in edits:
             table, records = river()
             edit(table, records)
@@ -1355,6 +1500,7 @@ def ceiling_cases():
         yield f"variance of a basin at lead {leads} alone", variance_edges("forecast", "basin", leads)
         yield f"inflow variance at lead {leads} alone", late_inflow_edges(leads)
     yield "margin of a correction", correction_edges
+    yield "noise", noise_ceiling
     yield "rain", rain_edges
     yield "highest numbers that stay below", all_at_ceiling
 
@@ -1388,5 +1534,9 @@ def cases():
     found += [Case(f"float: {name}", build) for name, build in (*float_cases(), *both_version_cases())]
     for name, table, records in float_rivers():
         found.append(Case(f"float: {name}, run", steps_of(table, records), exact=True))
+    found += [Case(f"rule {rule}", edited_calls(edit, noise_river)) for rule, edit in noise_edits()]
+    found += [Case(f"noise: {name}", build) for name, build in noise_cases()]
+    for name, table, records in (*noise_rivers(), *noise_orders()):
+        found.append(Case(f"noise: {name}, run", steps_of(table, records), exact=True))
     found += [Case(f"show: {name}", build) for name, build in show_cases()]
     return found

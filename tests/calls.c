@@ -6,7 +6,7 @@
  * asked about), then the table's bytes, the record's bytes, the 450 numbers of the state and the lent numbers. Asked about are a gauge and a
  * stage (rate) or a discharge and a margin (show). A reply: refusal, count, whether all that the host keeps stayed as it was, how many
  * numbers follow, and these: the 450 of the state afterwards (start, step), all that were lent (forecast, trial), the plan's eight after its
- * refusal (check), the library's version and the header's (version), discharge and pieces (rate), or the bits of two floats (show).
+ * refusal (check), the library's version and the header's (version), discharge, noise and pieces (rate), or the bits of two floats (show).
  *
  * Table, record, state and lent numbers each end where a page without access begins (side 0) or begin where one ends (side 1), so that a
  * read or write past that end ends this program by a signal; so does a write into what a call is given to read alone.
@@ -115,8 +115,8 @@ static void version_call(void)
 static void rate_call(uint64_t gauge, uint64_t stage)
 {
     river_rating got = river_rate(table.at, table.size, gauge, stage);
-    uint64_t rating[2] = {got.discharge, got.pieces};
-    reply(got.refusal, 0, inputs_stayed() && stayed(&state) && stayed(&numbers), 2, rating);
+    uint64_t rating[3] = {got.discharge, got.noise, got.pieces};
+    reply(got.refusal, 0, inputs_stayed() && stayed(&state) && stayed(&numbers), 3, rating);
 }
 
 static void show_call(uint64_t discharge, uint64_t margin)

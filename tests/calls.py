@@ -8,9 +8,9 @@ The library is target/staticlib/libriver.a unless another path is given; tests/c
 are the refusal, all 450 numbers of the lent state, the count and all lent numbers, what a rate answers, or the bits of what a display gets,
 and whether the host's own memory stayed as it was.
 Some neighbouring calls are held against each other too, whatever the calculator says: a trial against the step that follows it, two trials
-that differ in one gauge's reading, and two calls with the same readings in records of either version. Runs from a start are judged by the
-run in fractions too. The last line is "calls: N calls in M cases, F failed"; the exit code is 0 only where none failed. A failed case can
-be made again by its seed and number.
+that differ in one gauge's reading, two calls with the same readings in records of either version, and two with the same numbers in tables of
+either version. Runs from a start are judged by the run in fractions too. The last line is "calls: N calls in M cases, F failed"; the exit
+code is 0 only where none failed. A failed case can be made again by its seed and number.
 """
 import argparse
 import subprocess
@@ -23,12 +23,13 @@ from pathlib import Path
 from call_cases import cases
 from calculator import floats
 from calculator.fractions_run import ExactNumbers, EnclosedNumbers, FractionsRun
-from calculator.whole_numbers import RULES, Refused, decode_table
+from calculator.whole_numbers import GAUGE_BYTES, RULES, Refused
 from inputs import random_for
 
 ROOT = Path(__file__).resolve().parent.parent
 ENTRIES = {"start": 1, "step": 2, "forecast": 3, "check": 4, "version": 5, "rate": 6, "trial": 7, "show": 8}
-VERSION = 4  # of the interface
+VERSION = 5  # of the interface
+NOTHING = {"check": 8, "rate": 3, "show": 2}  # numbers of an answer that are all 0 where the call is refused
 MOST_SHOWN = 20  # failed cases that are told of
 TIME_LIMIT = 60  # seconds for all calls
 
@@ -38,7 +39,7 @@ class Reply:
     refusal: int
     count: int  # numbers written by a forecast or a trial
     kept: int  # 1: all that the host keeps stayed as it was
-    numbers: array  # the state's afterwards, all that were lent, the plan's, the versions, discharge and pieces, or the bits of two floats
+    numbers: array  # the state's afterwards, all lent, the plan's, the versions, discharge, noise and pieces, or the bits of two floats
 
 
 def state_numbers(state):
@@ -64,8 +65,8 @@ class Library:
     def refused(self, call, number):
         if call.entry in ("forecast", "trial"):
             return Reply(number, 0, 1, array("Q", call.lent))
-        if call.entry in ("check", "rate", "show"):
-            return Reply(number, 0, 1, array("Q", [0] * (8 if call.entry == "check" else 2)))
+        if call.entry in NOTHING:
+            return Reply(number, 0, 1, array("Q", [0] * NOTHING[call.entry]))
         return Reply(number, 0, 1, state_numbers(call.state))
 
     def start(self, call):
@@ -83,7 +84,7 @@ class Library:
         return Reply(0, count, 1, array("Q", numbers))
 
     def check(self, call):
-        table = decode_table(call.table)
+        table = self.rules.table(call.table)
         count, leads, gauges, basins, dams = len(table.elements), table.leads, len(table.gauges), table.basins, table.dams
         return Reply(0, 0, 1, array("Q", (count, leads, gauges, basins, dams, 3 + 2 * basins + 4 * dams + 2 * gauges,
                                           4 * count * (leads + 1), table.step_minutes)))
@@ -93,7 +94,7 @@ class Library:
 
     def rate(self, call):
         rating = self.rules.rate(call.table, *call.asked)
-        return Reply(rating.refusal, 0, 1, array("Q", (rating.discharge, rating.pieces)))
+        return Reply(rating.refusal, 0, 1, array("Q", (rating.discharge, rating.noise, rating.pieces)))
 
     def show(self, call):
         return Reply(0, 0, 1, array("Q", self.rules.show(*call.asked)))
@@ -196,7 +197,7 @@ def exact_complaint(calls, replies):
 def reached(table, gauge):
     """The places (from 0) that the water of a gauge (from 0) reaches: its element's, and on along the downs up to a dam, not into it."""
     kinds, downs = table[10:10 + 26 * table[8]:26], table[11:10 + 26 * table[8]:26]
-    number, places = table[10 + 26 * table[8] + 46 * gauge], set()
+    number, places = table[10 + 26 * table[8] + GAUGE_BYTES[table[4]] * gauge], set()
     while number and kinds[number - 1] != 3:
         places.add(number - 1)
         number = downs[number - 1]
@@ -234,7 +235,7 @@ def neighbour_complaints(calls, replies):
     for place in range(1, len(calls)):
         (one, other), (reply, next_reply) = calls[place - 1:place + 1], replies[place - 1:place + 1]
         if other.twin:
-            yield place, None if reply == next_reply else "the same readings in the other version are answered otherwise"
+            yield place, None if reply == next_reply else "the same readings or table in the other version are answered otherwise"
         if one.entry != "trial" or one.table != other.table or one.state is not other.state:
             continue
         if other.entry == "step" and one.record == other.record:

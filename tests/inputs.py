@@ -755,12 +755,15 @@ def stages_of(tops):
     return list(zip((0, *tops), tops))
 
 
+CURVE_NOISE = 1_000_000  # R of these gauges
+
+
 def river_of_curves(curves):
     """A reach for each curve, one after the other down the river, with a gauge on each."""
     elements = [reach(down=number + 1 if number < len(curves) else 0, lag=60 + number, first_discharge=1_000_000 * number,
                       first_variance=1_000_000, W=50_000) for number in range(1, len(curves) + 1)]
     return dict(T=60, L=1, elements=elements,
-                gauges=[gauge(number, R=1_000_000, pieces=pieces) for number, pieces in enumerate(curves, 1)])
+                gauges=[gauge(number, R=CURVE_NOISE, pieces=pieces) for number, pieces in enumerate(curves, 1)])
 
 
 FIVE_TOPS = ((1, 2, 3, 4, 30_001), (500, 1_000, 2_000, 20_000, 30_001), (29_997, 29_998, 29_999, 30_000, 30_001),
