@@ -17,8 +17,8 @@ from pathlib import Path
 from calculator.encode import record_bytes, table_bytes
 from calculator.program import run
 from calculator.tried_figures import EXAMPLE_INPUT
-from inputs import (CEILING, DAM_RECORDS, FLOAT_GAP, FLOAT_RECORDS, GAP, SMALL_RECORDS, dam_table, float_bits, float_river, random_for,
-                    small_table, some_records, some_table)
+from inputs import (CEILING, DAM_RECORDS, FLOAT_GAP, FLOAT_RECORDS, GAP, PASSES, SMALL_RECORDS, dam_table, float_bits, float_river,
+                    gauged_reaches, random_for, small_table, some_records, some_table)
 
 ROOT = Path(__file__).resolve().parent.parent
 PATIENCE = 2  # seconds within which an answer must come
@@ -155,6 +155,18 @@ def floats(line):
     line.close()
 
 
+def noises(line):
+    """A table of version 2 in pieces: a noise above C is answered by 16, and the run goes on."""
+    table = table_bytes(gauged_reaches(PASSES, (200, 100, 20_000, -500)))
+    line.send(table[:-2], 5)  # without the last β
+    line.silent()
+    line.send(table[-2:])
+    for stages in ((8_000, 2_000), (14_000, 2_000), (14_000, 499), (GAP, 1_500)):
+        line.send(record_bytes((), stages), 3)
+        line.answered()
+    line.close()
+
+
 def cut_record(left):
     def lines(line):
         line.send(SMALL)
@@ -176,21 +188,21 @@ def cut_table(left):
 
 def refused_table(line):
     """A whole table that is refused ends the run while the line is open."""
-    line.send(SMALL[:4] + b"\2" + SMALL[5:], 4)
+    line.send(SMALL[:4] + b"\3" + SMALL[5:], 4)
     line.answered()
     line.ends()
 
 
 def long_table(line):
     """A table that says it is longer than the longest is refused on what has come."""
-    line.send((2_407).to_bytes(4, "big") + SMALL[4:])
+    line.send((2_439).to_bytes(4, "big") + SMALL[4:])
     line.close()
 
 
 def largest_river(line):
-    """64 elements, 12 leads, 16 gauges: some forty thousand bytes for a record, all of them before the next one."""
+    """64 elements, 12 leads, 16 gauges of version 2: some forty thousand bytes for a record, all of them before the next one."""
     random = random_for(1, 1)
-    table = some_table(random, 64, "tree", "typical", leads=12, gauge_count=16)
+    table = some_table(random, 64, "tree", "typical", leads=12, gauge_count=16, version=2)
     line.send(table_bytes(table), 7)
     for record in some_records(random, table, 3, "typical"):
         line.send(record_bytes(*record), 2)
@@ -199,7 +211,7 @@ def largest_river(line):
 
 
 LINES = {"whole records": whole_records, "bytes one by one": bytes_one_by_one, "table and record at once": table_and_record_at_once,
-         "refused records": refused_records, "releases": releases, "floats": floats, "refused table": refused_table,
+         "refused records": refused_records, "releases": releases, "floats": floats, "noises": noises, "refused table": refused_table,
          "long table": long_table, "largest river": largest_river}
 LINES |= {f"record cut at {left}": cut_record(left) for left in (0, 1, 2, 3, 10)}
 LINES |= {f"table cut at {left}": cut_table(left) for left in (0, 3, 4, 9, len(SMALL) - 1)}

@@ -7,7 +7,8 @@ For each mutant the checks of judge.py that caught it are printed with the count
 "mutants: N tried, F not caught". Each is tried on some dozens of generated.py's quick inputs; on the slow ones (10,000 steps, 100,000
 records) only where these do not catch it, and on the other small ones last.
 
-Some are tried once more without the calculator: by the same readings in records of either version, whose outputs must be equal.
+Some are tried once more without the calculator: by the same readings in records of either version, or the same numbers in tables of either
+version, whose outputs must be equal. Then come wrong runs in fractions, which must find fault with the right program.
 
 Wrong libraries in the place of the C interface follow, which the comparison of calls.py must catch; with --libraries these alone. Some are
 then tried once more by what neighbouring calls say against each other, without the calculator. The last of them are in C:
@@ -28,13 +29,15 @@ import paper_figures
 from calculator import whole_numbers
 from calculator.encode import big_endian
 from calculator.floats import GAP_BITS, HALF
-from calculator.program import Program, run
-from calculator.whole_numbers import (BASIN, CEILING, DAM, GAP, HIGHEST_RAIN, HIGHEST_STAGE, REACH, SCALE, Figures, Rating, Refused, Rules,
-                                      State, decode_table, number_at, stage_in_range, under_ceiling)
+from calculator.fractions_run import ExactNumbers, FractionsRun
+from calculator.program import LONGEST_TABLE, Program, run
+from calculator.whole_numbers import (BASIN, CEILING, DAM, ELEMENT_BYTES, GAP, GAUGE_BYTES, HEADER_BYTES, HIGHEST_BETA, HIGHEST_RAIN,
+                                      HIGHEST_STAGE, REACH, SCALE, Figures, Rating, Refused, Rules, State, decode_table, number_at,
+                                      stage_in_range, under_ceiling)
 from call_cases import Watched, cases
 from calls import ROOT, Library, built_driver, compare, made_calls
 from inputs import SHAPES, inputs, random_for
-from judge import judge, version_complaint
+from judge import check_figures, judge, version_complaint
 
 SEED = 1
 ENOUGH = 25  # inputs that catch a mutant; no more are tried then (of the slow ones, after one)
@@ -239,10 +242,11 @@ class GoesOnAfterFourteen(Rules):
         for read, piece in enumerate(gauge.pieces[:gauge.used], 1):
             try:
                 if stage < piece.top:
-                    return Rating(0, self.curve(piece, stage), read)
+                    z = self.curve(piece, stage)
+                    return Rating(0, z, self.noise(gauge, z), read)
             except Refused:
                 pass
-        return Rating(14, 0, gauge.used)
+        return Rating(14, 0, 0, gauge.used)
 
 
 class EveryPieceTested(Rules):
@@ -254,7 +258,7 @@ class EveryPieceTested(Rules):
             try:
                 self.curve(piece, stage)
             except Refused:
-                return Rating(14, 0, read)
+                return Rating(14, 0, 0, read)
         return right
 
 
@@ -932,6 +936,322 @@ class EighteenAsGap(WrongFloats):
         return super().stages(version, [GAP_BITS if version == 2 and not self.float_in_range(bits) else bits for bits in sent])
 
 
+# ---- Wrong noises ------------------------------------------------------------------------------------------------------------------------
+
+
+class WrongNoise(Rules):
+    """Rules by which the noise of a reading or a table of version 2 is wrong; inputs with these are asked about them first."""
+
+
+class BetaIgnored(WrongNoise):
+    def noise(self, gauge, z):
+        return gauge.noise
+
+
+class TNotRounded(WrongNoise):
+    """One rounding, of the square."""
+
+    def noise(self, gauge, z):
+        return gauge.noise + gauge.beta ** 2 * z ** 2 // 10 ** 15
+
+
+class TRoundedUp(WrongNoise):
+    def noise(self, gauge, z):
+        return gauge.noise + (-(-gauge.beta * z // 10 ** 6)) ** 2 // 1_000
+
+
+class NoiseRoundedUp(WrongNoise):
+    def noise(self, gauge, z):
+        return gauge.noise - (-(gauge.beta * z // 10 ** 6) ** 2 // 1_000)
+
+
+class NoiseNotSquared(WrongNoise):
+    def noise(self, gauge, z):
+        return gauge.noise + gauge.beta * z // 10 ** 6
+
+
+class NoiseWithoutR(WrongNoise):
+    def noise(self, gauge, z):
+        return max(1, super().noise(gauge, z) - gauge.noise)
+
+
+class LargerNoise(WrongNoise):
+    """The larger of R and what β makes of z."""
+
+    def noise(self, gauge, z):
+        return max(gauge.noise, super().noise(gauge, z) - gauge.noise)
+
+
+class NoiseOfUnroundedZ(WrongNoise):
+    def look(self, gauge, stage):
+        right = super().look(gauge, stage)
+        piece = gauge.pieces[right.pieces - 1]
+        t = gauge.beta * piece.a * (stage + piece.b) ** 2 // 10 ** 9
+        return right if right.refusal else right._replace(noise=gauge.noise + t * t // 1_000)
+
+
+class KnownR(int):
+    """The noise of a reading, with R beside it."""
+
+    def __new__(cls, noise, R):
+        known = super().__new__(cls, noise)
+        known.R = R
+        return known
+
+
+class RKept(WrongNoise):
+    """R in the place of the noise in some of a correction's numbers."""
+
+    def noise(self, gauge, z):
+        return KnownR(super().noise(gauge, z), gauge.noise)
+
+
+class RInGain(RKept):
+    def gain(self, figures, noise):
+        return super().gain(figures, noise.R)
+
+
+class RInGainAlone(RKept):
+    """Not in its margin."""
+
+    def gain(self, figures, noise):
+        return super().gain(figures, noise.R)[0], super().gain(figures, noise)[1]
+
+
+class RInGainMargin(RKept):
+    def gain(self, figures, noise):
+        return super().gain(figures, noise)[0], super().gain(figures, noise.R)[1]
+
+
+class RInVariance(RKept):
+    def corrected_variance(self, figures, noise):
+        return super().corrected_variance(figures, noise.R)
+
+
+class RInVarianceAlone(RKept):
+    """Not in its margin."""
+
+    def corrected_variance(self, figures, noise):
+        return super().corrected_variance(figures, noise.R)[0], super().corrected_variance(figures, noise)[1]
+
+
+class RInVarianceMargin(RKept):
+    def corrected_variance(self, figures, noise):
+        return super().corrected_variance(figures, noise)[0], super().corrected_variance(figures, noise.R)[1]
+
+
+class RInProduct(RKept):
+    """P R over P and the noise."""
+
+    def corrected_variance(self, figures, noise):
+        return figures.variance * noise.R // (figures.variance + noise), super().corrected_variance(figures, noise)[1]
+
+
+class WrongBetas(WrongNoise):
+    """A right table whose gauges are then given other β."""
+
+    def spoil(self, betas):
+        raise NotImplementedError
+
+    def table(self, table_bytes):
+        right = super().table(table_bytes)
+        betas = self.spoil([gauge.beta for gauge in right.gauges])
+        return replace(right, gauges=tuple(replace(gauge, beta=beta) for gauge, beta in zip(right.gauges, betas)))
+
+
+class BetaOfFirstGauge(WrongBetas):
+    def spoil(self, betas):
+        return betas[:1] * len(betas)
+
+
+class BetaOfNextGauge(WrongBetas):
+    """The last has its own."""
+
+    def spoil(self, betas):
+        return betas[1:] + betas[-1:]
+
+
+class LowByteOfBeta(WrongBetas):
+    def spoil(self, betas):
+        return [beta % 256 for beta in betas]
+
+
+class VersionOneWithBeta(WrongNoise):
+    """Version 1 means β 100."""
+
+    def table(self, table_bytes):
+        right = super().table(table_bytes)
+        return right if table_bytes[4] == 2 else replace(right, gauges=tuple(replace(gauge, beta=100) for gauge in right.gauges))
+
+
+class NoiseAboveCeilingTaken(WrongNoise):
+    most_noise = CEILING + 1
+
+
+class NoiseNotJudged(WrongNoise):
+    most_noise = 2 * CEILING
+
+
+class NoiseOfCeilingRefused(WrongNoise):
+    most_noise = CEILING - 1
+
+
+class NoiseCutOff(WrongNoise):
+    """A noise above C is C."""
+
+    def noise(self, gauge, z):
+        return min(CEILING, super().noise(gauge, z))
+
+
+class NoisyReadingAsGap(WrongNoise):
+    """A reading with a noise above C is left out."""
+
+    def readings(self, table, record):
+        rains, releases, readings = super().readings(table, record)
+        return rains, releases, {element: reading for element, reading in readings.items() if reading[1] <= CEILING}
+
+
+class NoiseWithFourteen(WrongNoise):
+    """Gauge after gauge its 14, then 16 for its noise."""
+    number = 16
+
+    def look(self, gauge, stage):
+        right = super().look(gauge, stage)
+        return right if right.noise <= CEILING else Rating(self.number, 0, 0, right.pieces)
+
+
+class FourteenForNoise(NoiseWithFourteen):
+    number = 14
+
+
+class NoiseBeforeZ(WrongNoise):
+    """At one gauge 16 for the noise before 14 for the z that it is of."""
+
+    def look(self, gauge, stage):
+        right = super().look(gauge, stage)
+        piece = gauge.pieces[right.pieces - 1]
+        z, taken = piece.a * (stage + piece.b) ** 2 // 1_000, stage + piece.b >= 0
+        return Rating(16, 0, 0, right.pieces) if right.refusal and taken and self.noise(gauge, z) > CEILING else right
+
+
+class NoiseOfGapJudged(WrongNoise):
+    """A gap has the noise of the highest z."""
+
+    def readings(self, table, record):
+        right = super().readings(table, record)
+        if any(gauge.element not in right[2] and self.noise(gauge, CEILING) > CEILING for gauge in table.gauges if gauge.beta):
+            raise Refused(16)
+        return right
+
+
+# ---- Wrong tables of version 2 -----------------------------------------------------------------------------------------------------------
+
+
+def gauges_of(table_bytes, size):
+    """What stands before the gauges of a table, and each of them by its bytes."""
+    first = HEADER_BYTES + ELEMENT_BYTES * (table_bytes[8] if len(table_bytes) > 8 else 0)
+    return table_bytes[:first], [table_bytes[at:at + size] for at in range(first, len(table_bytes), size)]
+
+
+class PatchedTable(WrongNoise):
+    """A table of one version is judged with other bytes."""
+    version = 2
+
+    def patched(self, table_bytes):
+        raise NotImplementedError
+
+    def table(self, table_bytes):
+        return super().table(self.patched(bytes(table_bytes)) if table_bytes[4:5] == bytes([self.version]) else table_bytes)
+
+
+class TableVersionTwoRefused(PatchedTable):
+    def patched(self, table_bytes):
+        return table_bytes[:4] + bytes([3]) + table_bytes[5:]
+
+
+class TableVersionThreeTaken(PatchedTable):
+    """As version 2."""
+    version = 3
+
+    def patched(self, table_bytes):
+        return table_bytes[:4] + bytes([2]) + table_bytes[5:]
+
+
+class GaugesOf46Bytes(PatchedTable):
+    """Version 2 is read as version 1."""
+
+    def patched(self, table_bytes):
+        return table_bytes[:4] + bytes([1]) + table_bytes[5:]
+
+
+class GaugesOf48Bytes(PatchedTable):
+    """Version 1 is read as version 2."""
+    version = 1
+
+    def patched(self, table_bytes):
+        return table_bytes[:4] + bytes([2]) + table_bytes[5:]
+
+
+class BetaFromLastByte(PatchedTable):
+    """β in little-endian order."""
+
+    def patched(self, table_bytes):
+        head, gauges = gauges_of(table_bytes, GAUGE_BYTES[2])
+        return head + b"".join(gauge[:46] + gauge[:45:-1] for gauge in gauges)
+
+
+class BetaBeforeGauge(PatchedTable):
+    """β stands before the rest of its gauge."""
+
+    def patched(self, table_bytes):
+        head, gauges = gauges_of(table_bytes, GAUGE_BYTES[2])
+        return head + b"".join(gauge[2:] + gauge[:2] for gauge in gauges)
+
+
+class BetaInVersionOne(WrongNoise):
+    """The two bytes after each gauge of version 1 are read as its β; after the last there is none."""
+
+    def table(self, table_bytes):
+        right = super().table(table_bytes)
+        if table_bytes[4] == 1:
+            _, gauges = gauges_of(table_bytes, GAUGE_BYTES[1])
+            betas = [number_at(after, 0, 2) for after in gauges[1:]] + [0]
+            if max(betas) > HIGHEST_BETA:
+                raise Refused(7)
+            right = replace(right, gauges=tuple(replace(gauge, beta=beta) for gauge, beta in zip(right.gauges, betas)))
+        return right
+
+
+class BetaNotJudged(WrongNoise):
+    """A β up to this is taken."""
+    most_beta = 65_535
+
+    def table(self, table_bytes):
+        try:
+            return super().table(table_bytes)
+        except Refused as refused:
+            if refused.number != 7 or table_bytes[4] != 2:
+                raise
+        head, gauges = gauges_of(table_bytes, GAUGE_BYTES[2])
+        betas = [number_at(gauge, 46, 2) for gauge in gauges]
+        if max(betas) > self.most_beta:
+            raise Refused(7)
+        right = super().table(head + b"".join(gauge[:46] + bytes(2) for gauge in gauges))
+        return replace(right, gauges=tuple(replace(gauge, beta=beta) for gauge, beta in zip(right.gauges, betas)))
+
+
+class BetaAboveHighestTaken(BetaNotJudged):
+    most_beta = HIGHEST_BETA + 1
+
+
+class HighestBetaRefused(WrongNoise):
+    def table(self, table_bytes):
+        right = super().table(table_bytes)
+        if any(gauge.beta == HIGHEST_BETA for gauge in right.gauges):
+            raise Refused(7)
+        return right
+
+
 # ---- Wrong refusals --------------------------------------------------------------------------------------------------------------------
 
 
@@ -1107,8 +1427,25 @@ class OneRecordTooFew(Program):
 
 
 class LongTableRead(Program):
-    """A table above 2,410 bytes judged like any other."""
+    """A table above 2,442 bytes judged like any other."""
     longest_table = 1 << 20
+
+
+class OneTableByteMore(Program):
+    longest_table = LONGEST_TABLE + 1
+
+
+class LongestOfVersionOne(Program):
+    """The longest table is still 2,410 bytes."""
+    longest_table = 2_410
+
+
+class LongestByVersion(Program):
+    """2,410 bytes for version 1, and 2,442 for every other."""
+
+    def run(self, data):
+        self.longest_table = 2_410 if data[4:5] == b"\1" else LONGEST_TABLE
+        return super().run(data)
 
 
 class CutRecordDropped(Program):
@@ -1297,7 +1634,7 @@ class LowByteOfMinutes(Library):
 
 
 class OldVersion(Library):
-    """A library of version 3 with a header of version 4."""
+    """A library of version 4 with a header of version 5."""
 
     def version(self, call):
         reply = super().version(call)
@@ -1429,6 +1766,71 @@ class DischargeAtFourteen(WrongLook):
         return rating._replace(discharge=piece.a * (stage + piece.b) ** 2 // 1_000)
 
 
+class NoiseAtFourteen(WrongLook):
+    """R is handed out with 14."""
+
+    def spoil(self, rating, gauge, stage):
+        return rating._replace(noise=gauge.noise) if rating.refusal else rating
+
+
+class WrongRate(Rules):
+    """A right rate which is then spoiled, where a reading's noise is asked for."""
+
+    def spoil(self, rating, found):
+        """`found` is the look before its noise is judged."""
+        raise NotImplementedError
+
+    def rate(self, table_bytes, number, stage):
+        right, gauges = super().rate(table_bytes, number, stage), self.table(table_bytes).gauges
+        return self.spoil(right, self.look(gauges[number - 1], stage)) if right.pieces else right
+
+
+class RateWithoutNoise(WrongRate):
+    def spoil(self, rating, found):
+        return rating._replace(noise=0)
+
+
+class RateWithR(WrongRate):
+    def rate(self, table_bytes, number, stage):
+        right, gauges = super(WrongRate, self).rate(table_bytes, number, stage), self.table(table_bytes).gauges
+        return right._replace(noise=gauges[number - 1].noise) if right.noise else right
+
+
+class RateOfAnyNoise(WrongRate):
+    """A rate does not judge its noise."""
+
+    def spoil(self, rating, found):
+        return found
+
+
+class NoPiecesAtSixteen(WrongRate):
+    def spoil(self, rating, found):
+        return rating._replace(pieces=0) if rating.refusal == 16 else rating
+
+
+class DischargeAtSixteen(WrongRate):
+    def spoil(self, rating, found):
+        return rating._replace(discharge=found.discharge)
+
+
+class NoiseAtSixteen(WrongRate):
+    def spoil(self, rating, found):
+        return rating._replace(noise=found.noise)
+
+
+class FourteenForSixteenInRate(WrongRate):
+    def spoil(self, rating, found):
+        return rating._replace(refusal=14) if rating.refusal else rating
+
+
+class NoiseOfNoReading(Rules):
+    """A rate of a gap tells R."""
+
+    def rate(self, table_bytes, number, stage):
+        right, gauges = super().rate(table_bytes, number, stage), self.table(table_bytes).gauges
+        return right._replace(noise=gauges[number - 1].noise) if stage == GAP and 1 <= number <= len(gauges) else right
+
+
 class ThirteenNotJudged(Rules):
     """A rate takes a stage above 30,000 by the last piece."""
 
@@ -1458,7 +1860,7 @@ class NoGaugeBeforeTable(Rules):
     """Gauge 0 is answered before the table is judged."""
 
     def rate(self, table_bytes, number, stage):
-        return super().rate(table_bytes, number, stage) if number else Rating(0, 0, 0)
+        return super().rate(table_bytes, number, stage) if number else Rating(0, 0, 0, 0)
 
 
 class GapLookedAlong(Rules):
@@ -1608,6 +2010,10 @@ class FloatsBy(Library):
     """A library by rules with wrong floats; only the cases of floats are asked about it."""
 
 
+class NoisesBy(Library):
+    """A library by rules with wrong noises or tables of version 2; only the cases of these are asked about it."""
+
+
 class InflowsBy(Library):
     """A library by rules with wrong inflows; only the cases of the mean inflow are asked about it."""
 
@@ -1710,6 +2116,15 @@ class FifteenAfterSixteen(Rules):
     def trial(self, table_bytes, record, state, lent):
         super().trial(table_bytes, record, state, [0] * 256)
         return super().trial(table_bytes, record, state, lent)
+
+
+class NoiseBeforeFifteen(Rules):
+    """16 for a noise is judged before 15."""
+
+    def step_input(self, table_bytes, record, state):
+        given = super().step_input(table_bytes, record, state)
+        under_ceiling(0, *(noise for _, noise in given[-1].values()))
+        return given
 
 
 class FifteenBeforeFourteen(Rules):
@@ -1912,7 +2327,7 @@ class CeilingOf(Watched):
 
 # The others of rule 16's numbers cannot pass C where rule 8 holds; call_cases.all_at_ceiling brings them as high as they go.
 REACHING_THE_CEILING = ("basin inflow", "reach inflow", "reach inflow margin", "reach inflow variance", "reach inflow variance margin",
-                        "moved margin", "moved variance", "corrected margin")
+                        "moved margin", "moved variance", "corrected margin", "noise")
 
 
 # Standard input does not reach what these look at.
@@ -1920,7 +2335,8 @@ ONLY_LIBRARIES = (LooksBeyond, LooksAtReachRains, LooksAtDamRains, LooksNotAtDam
                   DamKeepsMargin, DamKeepsVarianceMargin, CountOfPiecesInUse, CountFromZero, CountFromLast, CountOfAllTops,
                   NoCountAtFourteen, LastFourteenAsNoPiece, DischargeAtFourteen, ThirteenNotJudged, ThirteenAfterGauge,
                   ThirteenBeforeTable, NoGaugeBeforeTable, GapLookedAlong, GapAsThirteen, GaugeFromZero, GaugeOfLowHalf, StageOfTwoBytes,
-                  StageOfLowHalf, SevenForNoGauge)
+                  StageOfLowHalf, SevenForNoGauge, NoiseAtFourteen, RateWithoutNoise, RateWithR, RateOfAnyNoise, NoPiecesAtSixteen,
+                  DischargeAtSixteen, NoiseAtSixteen, FourteenForSixteenInRate, NoiseOfNoReading)
 # Wrong programs that are wrong libraries too: a rate shows more of them than standard input.
 WRONG_LOOKS = (NextPieceAtTop, LastPieceFirst, GoesOnAfterFourteen, EveryPieceTested)
 # The same of wrong inflows: the states of a host show more than a run.
@@ -1937,14 +2353,23 @@ WRONG_FLOATS = (ProductIn32Bits, SumIn32Bits, MillimetresCutOff, HalvesToEven, H
                 FloatsBeforeReleases, FourBytesUnlessVersionOne, TwoBytesForVersionTwo, EitherLength, VersionTwoRefused, VersionThreeTaken,
                 ThirteenForEighteen, ThirteenForHighFloats, ThirteenOnHalves, EighteenForThirteen, EighteenAfterFourteen,
                 EighteenWithFourteen, EighteenBeforeSeventeen, EighteenAsGap)
-# Of these, what the same readings in both versions show without the calculator.
+# And of wrong noises and tables of version 2.
+WRONG_NOISES = (BetaIgnored, TNotRounded, TRoundedUp, NoiseRoundedUp, NoiseNotSquared, NoiseWithoutR, LargerNoise, NoiseOfUnroundedZ, RInGain,
+                RInGainAlone, RInGainMargin, RInVariance, RInVarianceAlone, RInVarianceMargin, RInProduct, BetaOfFirstGauge, BetaOfNextGauge,
+                LowByteOfBeta, VersionOneWithBeta, NoiseAboveCeilingTaken, NoiseNotJudged, NoiseOfCeilingRefused, NoiseCutOff,
+                NoisyReadingAsGap, NoiseWithFourteen, FourteenForNoise, NoiseBeforeZ, NoiseOfGapJudged, TableVersionTwoRefused,
+                TableVersionThreeTaken, GaugesOf46Bytes, GaugesOf48Bytes, BetaFromLastByte, BetaBeforeGauge, BetaInVersionOne, BetaNotJudged,
+                BetaAboveHighestTaken, HighestBetaRefused)
+# Of these, what the same numbers in tables of both versions show without the calculator, β being 0.
+APART_BY_TABLE = (TableVersionTwoRefused, GaugesOf46Bytes, GaugesOf48Bytes, BetaBeforeGauge, BetaInVersionOne, VersionOneWithBeta)
+# Of wrong floats, what the same readings in both versions show.
 APART_BY_VERSION = (MillimetresCutOff, FloatGapAsZero, FloatsInMillimetres, ExponentOneHigh, LeadingOneLeftOut, FloatsFromLastByte,
                     FloatsBeforeReleases, VersionTwoRefused)
 WRONG_DISPLAYS = (DisplayMultiplied, DisplayDividedTwice, DisplayIn32Bits, DisplayOfCountIn32Bits, DisplayCutOff, DisplayInLitres,
                   DisplayChangedOver, DisplayNotJudged, DisplayDischargeJudged, DisplayMarginJudged, DisplayLowHalvesJudged,
                   DisplayOfCeilingRefused)
 # Rules by which trials alone are worked out: what only they can have wrong, and wrong steps.
-WRONG_TRIALS = (FifteenAfterSixteen, FifteenBeforeFourteen, FifteenBeforeEighteen, FifteenBeforeSeventeen, FifteenBeforeTen,
+WRONG_TRIALS = (FifteenAfterSixteen, NoiseBeforeFifteen, FifteenBeforeFourteen, FifteenBeforeEighteen, FifteenBeforeSeventeen, FifteenBeforeTen,
                 FifteenBeforeNine, FifteenBeforeEight, FifteenBeforeTable, NineNotGiven, FiguresBeforeStep, FiguresOfLeadOne,
                 FiguresBeforeCorrection, FiguresOnePlaceEarly, ReadingOnElementBefore, ReadingOnElementAfter, ReadingOnElementsAbove,
                 DamPassesVarianceOn)
@@ -1955,13 +2380,15 @@ WRONG_STEPS = (ReadingsIgnored, ReadingsIgnoredByZeroGain, ReadingTakenWhole, Co
                SeventeenBeforeTwelve, NegativeDepthSquared, OnlyValuesUnderCeiling, CeilingTakesOneMore, NineThousandSteps,
                ElevenThousandSteps, LooksBeyond, LooksAtReachRains, LooksAtDamRains, LooksNotAtLastPlace, LowHalves, ProductIn32Bits,
                HalvesDown, EveryNanAGap, FloatGapAsZero, NegativesThatRoundToZero, LimitOneHigher, ThirteenForEighteen,
-               EighteenAfterFourteen, EighteenBeforeSeventeen)
+               EighteenAfterFourteen, EighteenBeforeSeventeen, BetaIgnored, TNotRounded, NoiseOfUnroundedZ, RInGain, RInGainMargin,
+               RInVariance, RInVarianceMargin, BetaOfNextGauge, NoiseNotJudged, NoiseOfCeilingRefused, NoiseWithFourteen, NoiseOfGapJudged)
 # Of these, readings that change what their gauge's water does not reach.
 LEAKS = (ReadingOnElementBefore, ReadingOnElementAfter, ReadingOnElementsAbove, DamPassesVarianceOn, LastReadingForAll, DamLetsInflowThrough)
 # DamOldMarginLeftOut and the next: in a run a dam's margin is 0.
-NO_PROGRAMS = (Rules, Program, WrongAnswer, WrongInflow, WrongFloats, WrongLook, WrongDisplay, Watched, LooksNotAt, CeilingOf,
-               DamOldMarginLeftOut, DamOldMarginAtLeads, *ONLY_LIBRARIES, *WRONG_TRIALS, *WRONG_DISPLAYS)
-NO_LIBRARIES = (Library, InflowsBy, FloatsBy, ShownBy, WrongTrial, TrialsBy)
+NO_PROGRAMS = (Rules, Program, WrongAnswer, WrongInflow, WrongFloats, WrongNoise, RKept, WrongBetas, PatchedTable, WrongLook, WrongRate,
+               WrongDisplay, Watched, LooksNotAt, CeilingOf, DamOldMarginLeftOut, DamOldMarginAtLeads, *ONLY_LIBRARIES, *WRONG_TRIALS,
+               *WRONG_DISPLAYS)
+NO_LIBRARIES = (Library, InflowsBy, FloatsBy, NoisesBy, ShownBy, WrongTrial, TrialsBy)
 
 
 def libraries():
@@ -1976,6 +2403,8 @@ def libraries():
         yield f"{wrong.__name__} in calls", InflowsBy(wrong())
     for wrong in WRONG_FLOATS:
         yield f"{wrong.__name__} in calls", FloatsBy(wrong())
+    for wrong in WRONG_NOISES:
+        yield f"{wrong.__name__} in calls", NoisesBy(wrong())
     for wrong in WRONG_DISPLAYS:
         yield wrong.__name__, ShownBy(wrong())
     for wrong in (*WRONG_TRIALS, *WRONG_STEPS):
@@ -2038,7 +2467,7 @@ WRONG_IN_C = {
     "a down may name no dam": ("+ KIND] == BASIN)) refusal = 6;", "+ KIND] != REACH)) refusal = 6;"),
     "a lag of 0 for all kinds": ("return be2(e + LAG) >= step_minutes &&", "return (be2(e + LAG) == 0 || be2(e + LAG) >= step_minutes) &&"),
     "a look counts from 0": ("    size_t pieces = 1;\n", "    size_t pieces = 0;\n"),
-    "a look hands out a discharge with 14": ("return (river_rating){14, 0, pieces};", "return (river_rating){14, z, pieces};"),
+    "a look hands out a discharge with 14": ("return (river_rating){14, 0, 0, pieces};", "return (river_rating){14, z, 0, pieces};"),
     "a look has h + b in 16 bits": ("    int depth = (int)h + (int16_t)be2(piece + OFFSET);\n",
                                     "    int depth = (int16_t)(h + be2(piece + OFFSET));\n"),
     "a look has z in 32 bits": ("    u64 z = be4(piece + FACTOR) *", "    u32 z = be4(piece + FACTOR) *"),
@@ -2060,6 +2489,8 @@ WRONG_IN_C = {
     "a trial writes into its record what stands there": (TRIED, TRIED + "    *(volatile u8 *)record = record[0];\n"),
     "a trial writes into its table what stands there": (TRIED, TRIED + "    *(volatile u8 *)table = table[0];\n"),
     "a trial judges 15 after 16": (TRIAL_NEED + TRIAL_ROOM, TRIAL_NEED, TRIAL_WORKED, TRIAL_WORKED + TRIAL_ROOM),
+    "a trial judges a noise before 15": (TRIAL_NEED + TRIAL_ROOM, TRIAL_NEED + "    for (Reading *each = readings; each->element; each++)\n"
+                                         "        if (each->noise > CEILING) return (river_written){16, 0};\n" + TRIAL_ROOM),
     "a trial judges 15 before 14": (TRIAL_JUDGED, f"    if (refusal == 14 && {TOO_SHORT}) refusal = 15;\n" + TRIAL_JUDGED),
     "a trial judges 15 before 18": (TRIAL_JUDGED, f"    if (refusal == 18 && {TOO_SHORT}) refusal = 15;\n" + TRIAL_JUDGED),
     "a trial judges 15 before 9": (TRIAL_JUDGED, f"    if (refusal >= 9 && {TOO_SHORT}) refusal = 15;\n" + TRIAL_JUDGED),
@@ -2212,7 +2643,72 @@ WRONG_DISPLAYS_IN_C = {
     "a refused display shows its margin": (SHOW_REFUSED, SHOW_REFUSED.replace(" 0}", " in_cubic_metres(margin)}")),
     "a refused display shows minus zero": (SHOW_REFUSED, SHOW_REFUSED.replace("16, 0,", "16, -0.0,")),
 }
-WRONG_IN_C |= WRONG_INFLOWS_IN_C | WRONG_FLOATS_IN_C | WRONG_DISPLAYS_IN_C
+T_ROUNDED, RATED = "    u64 t = beta(table, g) * z / 1000000;\n", "    return (river_rating){0, z, be4(g + NOISE) + t * t / 1000, pieces};\n"
+BETA_READ, BETA_JUDGED = "return t->version == 2 ? be2(g + BETA) : 0;", " && beta(t, g) <= HIGHEST_BETA;"
+TABLE_VERSIONS = "    if (t->version != 1 && t->version != 2) return 2;\n"
+GAUGE_SIZES, NOISE_JUDGED = "    t->gauge_bytes = t->version == 2 ? 48 : 46;\n", "    if (noise > CEILING) return 1;\n"
+FOURTEEN, RATE_JUDGED = "        if (found.refusal) return 14;\n", "    return found.noise > CEILING ? (river_rating){16, 0, 0, found.pieces} : found;\n"
+# A reading that has R as well.
+WITH_R = ("typedef struct { u64 element, z, noise; } Reading;", "typedef struct { u64 element, z, noise, r; } Reading;",
+          "(Reading){g[ELEMENT], found.discharge, found.noise};", "(Reading){g[ELEMENT], found.discharge, found.noise, be4(g + NOISE)};",
+          NOISE_JUDGED, NOISE_JUDGED + "    u64 r = reading->r, less = f->variance + r;\n")
+GAIN, GAIN_MARGIN = "SCALE * f->variance / total", "SCALE * f->variance_margin / total + 2"
+VARIANCE, VARIANCE_MARGIN = "f->variance * noise / total", "f->variance_margin * noise / total + 2"
+# These are tried by the cases of noises and of tables of version 2 alone.
+WRONG_NOISES_IN_C = {
+    "beta is ignored": (BETA_READ, "return t->version == 2 ? 0 : 0;"),
+    "t is not rounded": (T_ROUNDED + RATED, "    u64 t = beta(table, g) * z;\n    return (river_rating){0, z, be4(g + NOISE) + "
+                         "(u64)((unsigned __int128)t * t / 1000000000000000), pieces};\n"),
+    "t is rounded up": (T_ROUNDED, T_ROUNDED.replace("z / 1000000", "z / 1000000 + (beta(table, g) * z % 1000000 > 0)")),
+    "t is rounded to the nearest": (T_ROUNDED, T_ROUNDED.replace("beta(table, g) * z /", "(beta(table, g) * z + 500000) /")),
+    "a noise is rounded up": (RATED, RATED.replace("t * t / 1000", "(t * t + 999) / 1000")),
+    "beta z has 32 bits": (T_ROUNDED, T_ROUNDED.replace("beta(table, g) * z", "(u32)(beta(table, g) * z)")),
+    "t x t has 32 bits": (RATED, RATED.replace("t * t", "(u32)(t * t)")),
+    "a noise has 32 bits": (RATED, RATED.replace("be4(g + NOISE) + t * t / 1000", "(u32)(be4(g + NOISE) + t * t / 1000)")),
+    "a noise is without R": (RATED, RATED.replace("be4(g + NOISE) + t * t / 1000", "t * t / 1000 + !t")),
+    "a noise is that of the unrounded z": (T_ROUNDED, "    u64 t = beta(table, g) * (be4(piece + FACTOR) * ((u64)depth * (u64)depth)) / "
+                                           "1000000000;\n"),
+    "a noise is the first gauge's": (T_ROUNDED, T_ROUNDED.replace("(table, g)", "(table, table->gauges)")),
+    "a noise is the next gauge's": (T_ROUNDED, T_ROUNDED.replace("(table, g)", "(table, g + table->gauge_bytes)")),
+    "R is left in the gain": (*WITH_R, GAIN, "SCALE * f->variance / (f->variance + reading->r)"),
+    "R is left in the gain margin": (*WITH_R, GAIN_MARGIN, "SCALE * f->variance_margin / (f->variance + reading->r) + 2"),
+    "R is left in the variance": (*WITH_R, VARIANCE, "f->variance * r / less"),
+    "R is left in the margin of the variance": (*WITH_R, VARIANCE_MARGIN, "f->variance_margin * r / less + 2"),
+    "a noise above C is taken": (NOISE_JUDGED, ""),
+    "a noise of C is refused": (NOISE_JUDGED, NOISE_JUDGED.replace(">", ">=")),
+    "R alone is judged": (*WITH_R[:4], NOISE_JUDGED, "    if (reading->r > CEILING) return 1;\n"),
+    "a noise above C is cut off": (NOISE_JUDGED, "    if (noise > CEILING) noise = CEILING;\n"),
+    "a noise above C is a gap": (FOURTEEN, FOURTEEN + "        if (found.noise > CEILING) continue;\n"),
+    "a noise is judged with 14, gauge by gauge": (FOURTEEN, FOURTEEN + "        if (found.noise > CEILING) return 16;\n"),
+    "14 is given for a noise": (FOURTEEN, FOURTEEN.replace("found.refusal", "found.refusal || found.noise > CEILING")),
+    "a gap's noise is judged": (GAP_PASSED, "        u64 most = beta(t, g) * 4000ull;\n        if (stages[k] == GAP && most && be4(g + NOISE) + "
+                                "most * most / 1000 > CEILING) return 16;\n" + GAP_PASSED),
+    "a beta of 501 is taken": (BETA_JUDGED, BETA_JUDGED.replace("HIGHEST_BETA", "HIGHEST_BETA + 1")),
+    "a beta of 500 is refused": (BETA_JUDGED, BETA_JUDGED.replace("<=", "<")),
+    "a beta is not judged": (BETA_JUDGED, ";"),
+    "the low byte of beta is judged": (BETA_JUDGED, BETA_JUDGED.replace("beta(t, g)", "beta(t, g) % 256")),
+    "beta is read from the last byte on": (BETA_READ, BETA_READ.replace("be2(g + BETA)", "(g[BETA + 1] << 8 | g[BETA])")),
+    "beta is read in version 1 too": (BETA_READ, "return be2(g + BETA);"),
+    "beta stands before the curve": ("PIECES = 6, BETA = 46,", "PIECES = 8, BETA = 6,"),
+    "a table of version 2 is refused": (TABLE_VERSIONS, TABLE_VERSIONS.replace(" && t->version != 2", "")),
+    "a table of version 3 is taken": (TABLE_VERSIONS, TABLE_VERSIONS.replace("t->version != 2", "t->version != 2 && t->version != 3")),
+    "a table of version 0 is taken": (TABLE_VERSIONS, TABLE_VERSIONS.replace("t->version != 1", "t->version > 1")),
+    "version 2 has gauges of 46 bytes": (GAUGE_SIZES, "    t->gauge_bytes = 46;\n"),
+    "version 1 has gauges of 48 bytes": (GAUGE_SIZES, "    t->gauge_bytes = 48;\n"),
+    "a look hands out R with 14": ("return (river_rating){14, 0, 0, pieces};", "return (river_rating){14, 0, be4(g + NOISE), pieces};"),
+    "a rate tells no noise": (RATE_JUDGED, "    found.noise = 0;\n" + RATE_JUDGED),
+    "a rate tells R": (RATE_JUDGED, RATE_JUDGED + "    ", "    river_rating found = look(&t,", "    t.version = 1;\n    river_rating found = look(&t,"),
+    "a rate does not judge its noise": (RATE_JUDGED, "    return found;\n"),
+    "a rate refuses a noise of C": (RATE_JUDGED, RATE_JUDGED.replace(">", ">=")),
+    "a rate gives 14 for a noise": (RATE_JUDGED, RATE_JUDGED.replace("16", "14")),
+    "a rate refused by 16 tells no pieces": (RATE_JUDGED, RATE_JUDGED.replace("found.pieces}", "0}")),
+    "a rate refused by 16 tells its discharge": (RATE_JUDGED, RATE_JUDGED.replace("16, 0,", "16, found.discharge,")),
+    "a rate refused by 16 tells its noise": (RATE_JUDGED, RATE_JUDGED.replace("0, 0, found", "0, found.noise, found")),
+    "a rate of a gap tells R": ("gauge > t.gauge_count) return (river_rating){refusal, 0, 0, 0};",
+                                "gauge > t.gauge_count)\n        return (river_rating){refusal, 0, !refusal && gauge == 1 && t.gauge_count ? "
+                                "be4(t.gauges + NOISE) : 0, 0};"),
+}
+WRONG_IN_C |= WRONG_INFLOWS_IN_C | WRONG_FLOATS_IN_C | WRONG_NOISES_IN_C | WRONG_DISPLAYS_IN_C
 
 
 def library_in_c(name, changes):
@@ -2230,6 +2726,9 @@ def library_in_c(name, changes):
     return folder / "library.o"
 
 
+NOISE_CASES = ("noise: ", "ceiling: noise", "trial: noise, ", "rule 2", "rule 4", "rule 7", "last places")
+
+
 def caught_libraries():
     """By name of a wrong library: the first case of calls.py whose comparison catches it, and its place among the cases."""
     right, built = Library(), []
@@ -2237,8 +2736,8 @@ def caught_libraries():
         calls = list(case.build(random_for(SEED, number)))
         built.append((number + 1, replace(case, exact=False), calls, [right.reply(call) for call in calls]))
     record_rules = tuple(f"rule {number}" for number in range(10, 19))
-    trials, inflows, floats, shows = ([each for each in built if each[1].name.startswith(begins)]
-                                      for begins in ("trial: ", "mean inflow: ", ("float: ", *record_rules), "show: "))
+    trials, inflows, floats, noises, shows = ([each for each in built if each[1].name.startswith(begins)] for begins in (
+        "trial: ", "mean inflow: ", ("float: ", *record_rules), NOISE_CASES, "show: "))
 
     def first_caught(reply_to, among, alone=False):
         """`alone`: by neighbouring calls alone, as if the calculator had the same mistake."""
@@ -2251,18 +2750,20 @@ def caught_libraries():
     def first_caught_in_c(name, changes):
         driver = built_driver(library_in_c(name, changes))
         among = (trials if name.startswith("a trial ") else inflows if name in WRONG_INFLOWS_IN_C else floats if name in WRONG_FLOATS_IN_C
-                 else shows if name in WRONG_DISPLAYS_IN_C else built)
+                 else noises if name in WRONG_NOISES_IN_C else shows if name in WRONG_DISPLAYS_IN_C else built)
         replies = iter(made_calls(driver, [call for _, _, calls, _ in among for call in calls], starts=1))
         return first_caught(lambda _: next(replies), among)
 
     for name, wrong in libraries():
-        asked = {InflowsBy: inflows, FloatsBy: floats, ShownBy: shows}.get(type(wrong), built)
+        asked = {InflowsBy: inflows, FloatsBy: floats, NoisesBy: noises, ShownBy: shows}.get(type(wrong), built)
         yield name, *first_caught(wrong.reply, trials if isinstance(wrong, WrongTrial) else asked)
     yield "ReadingsIgnored in trials, by the step alone", *first_caught(TrialsBy(ReadingsIgnored()).reply, trials, alone=True)
     for wrong in LEAKS:
         yield f"{wrong.__name__}, by two trials alone", *first_caught(Library(wrong()).reply, trials, alone=True)
     for wrong in APART_BY_VERSION:
         yield f"{wrong.__name__}, by both versions alone", *first_caught(Library(wrong()).reply, floats, alone=True)
+    for wrong in APART_BY_TABLE:
+        yield f"{wrong.__name__}, by both tables alone", *first_caught(Library(wrong()).reply, noises, alone=True)
     if first_caught_in_c("as it stands", ())[0] != "NOT CAUGHT":
         sys.exit("bench/plain_calls.c as it stands is caught; see tests/calls.py")
     for name, changes in WRONG_IN_C.items():
@@ -2275,21 +2776,28 @@ def mutants():
             yield wrong.__name__, (wrong().run if issubclass(wrong, Program) else Program(wrong()).run)
 
 
-FLOATS_FIRST = {each.__name__ for each in list(globals().values())
-                if isinstance(each, type) and issubclass(each, (WrongFloats, EighteenEndsRun))}
+def names_of(*bases):
+    return {each.__name__ for each in list(globals().values()) if isinstance(each, type) and issubclass(each, bases)}
 
 
-FLOAT_FAMILIES = ("float", "rule 18", "order: ", "river_in_floats", "mixed_floats", "last place: 18")
+# By what they have wrong: the wrong programs, and the families that are asked about these first.
+FLOATS_FIRST, FLOAT_FAMILIES = names_of(WrongFloats, EighteenEndsRun), ("float", "rule 18", "order: ", "river_in_floats", "mixed_floats",
+                                                                       "last place: 18")
+NOISES_FIRST, NOISE_FAMILIES = names_of(WrongNoise, OneTableByteMore, LongestOfVersionOne, LongestByVersion), (
+    "noise", "size of table: ", "last place: 7, beta", "last place: 16")
 
 
 def chosen_inputs():
-    """Four groups: those with floats, some dozens of all other families, the slow ones, the other quick ones that are small."""
-    floats, dozens, others, slow, seen = [], [], [], [], {}
+    """Five groups: those with floats, those with noises, some dozens of all other families, the slow ones, the other quick ones that are
+    small."""
+    floats, noises, dozens, others, slow, seen = [], [], [], [], [], {}
     for number, given in enumerate(inputs()):
         family = given.family.split(" cut at")[0].split(" spoiled at")[0]
         seen[family] = seen.get(family, 0) + 1
         if given.family.startswith(FLOAT_FAMILIES):
             floats.append((number, given))
+        elif given.family.startswith(NOISE_FAMILIES):
+            noises.append((number, given))
         elif not given.fractions:
             slow.append((number, given))
         elif family.startswith(("river of 64", "longest", "long river", "Yubetsu")):
@@ -2298,16 +2806,16 @@ def chosen_inputs():
             dozens.append((number, given))
         else:
             others.append((number, given))
-    return floats, dozens, slow, others
+    return floats, noises, dozens, slow, others
 
 
 def try_programs():
     """Prints a line for each wrong program; gives how many were tried and how many not caught."""
-    (floats, *groups), expected = chosen_inputs(), {}
+    (floats, noises, *groups), expected = chosen_inputs(), {}
     tried = missed = 0
     for name, wrong in mutants():
         caught, used = {}, 0
-        for group in (floats, *groups) if name in FLOATS_FIRST else (*groups, floats):
+        for group in ([floats] * (name in FLOATS_FIRST) + [noises] * (name in NOISES_FIRST) + groups + [floats, noises]):
             for number, given in group:
                 if caught.get("bytes", 0) >= (ENOUGH if given.fractions else 1):
                     break
@@ -2330,15 +2838,56 @@ def try_programs():
 
 
 def try_versions():
-    """Wrong programs that print another output for the same readings in version 1: how many were tried and how many not caught."""
-    pairs = [[build(random_for(SEED, number)) for build in (given.build, given.twin)] for number, given in enumerate(inputs()) if given.twin]
+    """Wrong programs that print another output for the same readings, or table, in version 1: how many were tried and how many not caught."""
     missed = 0
-    for wrong in APART_BY_VERSION:
-        program = Program(wrong())
-        caught = sum(bool(version_complaint(program.run(data), program.run(twin))) for data, twin in pairs)
+    for family, wrongs, words in (("float: ", APART_BY_VERSION, "versions"), ("noise: ", APART_BY_TABLE, "tables")):
+        pairs = [[build(random_for(SEED, number)) for build in (given.build, given.twin)]
+                 for number, given in enumerate(inputs()) if given.twin and given.family.startswith(family)]
+        for wrong in wrongs:
+            program = Program(wrong())
+            caught = sum(bool(version_complaint(program.run(data), program.run(twin))) for data, twin in pairs)
+            missed += not caught
+            print(f"{wrong.__name__}, by both {words} alone: {f'versions {caught}' if caught else 'NOT CAUGHT'} (of {len(pairs)} inputs)")
+    return len(APART_BY_VERSION) + len(APART_BY_TABLE), missed
+
+
+# ---- Wrong runs in fractions -------------------------------------------------------------------------------------------------------------
+
+
+class RGiven(FractionsRun):
+    def given_noise(self, noise, beta, z):
+        return noise
+
+
+class NoiseOfUnroundedZGiven(FractionsRun):
+    def given_noise(self, noise, beta, z):
+        return super().given_noise(noise, 1, beta * z)
+
+
+class TUnroundedGiven(FractionsRun):
+    """[t x t / 1,000] alone is rounded."""
+
+    def given_noise(self, noise, beta, z):
+        return noise + floor(Fraction(beta * floor(z), 10 ** 6) ** 2 / 1_000)
+
+
+class NoiseUnroundedGiven(FractionsRun):
+    def given_noise(self, noise, beta, z):
+        return noise + (beta * z / 10 ** 6) ** 2 / 1_000
+
+
+WRONG_RUNS = (RGiven, NoiseOfUnroundedZGiven, TUnroundedGiven, NoiseUnroundedGiven)
+
+
+def try_fractions():
+    """Runs in fractions that are given another noise than the cabinet's: how many were tried and how many found no fault."""
+    chosen = [given.build(random_for(SEED, number)) for number, given in enumerate(inputs()) if given.family.startswith("noise: ")]
+    outputs, missed = [(data, run(data)) for data in chosen if len(data) < 1_000], 0  # larger rivers take long in fractions
+    for wrong in WRONG_RUNS:
+        caught = sum("fractions" in check_figures(data, output, ExactNumbers(), wrong) for data, output in outputs)
         missed += not caught
-        print(f"{wrong.__name__}, by both versions alone: {f'versions {caught}' if caught else 'NOT CAUGHT'} (of {len(pairs)} inputs)")
-    return len(APART_BY_VERSION), missed
+        print(f"{wrong.__name__}: {f'fractions {caught}' if caught else 'NOT CAUGHT'} (of {len(outputs)} inputs)")
+    return len(WRONG_RUNS), missed
 
 
 # Rules that change figures of the worked examples.
@@ -2377,7 +2926,7 @@ def try_papers():
 
 def main():
     chosen = sys.argv[1:]
-    parts = ([] if chosen else [try_programs, try_versions]) + ([] if "--libraries" in chosen else [try_papers])
+    parts = ([] if chosen else [try_programs, try_versions, try_fractions]) + ([] if "--libraries" in chosen else [try_papers])
     tried, missed = map(sum, zip((0, 0), *(part() for part in parts)))
     for name, caught, used in caught_libraries() if "--papers" not in chosen else ():
         tried, missed = tried + 1, missed + (caught == "NOT CAUGHT")
