@@ -14,11 +14,11 @@ from calculator.whole_numbers import (BASIN, CEILING, GAP, MOST_ELEMENTS, RULES,
                                       step)
 from inputs import (ABOVE_ALL, BYTE_ORDERS, CURVE_EDGES, CURVE_NOISE, DAM_RECORDS, EXACT_HALVES, FIVE_TOPS, FLOAT_GAP, FLOAT_RECORDS,
                     HALVES_OF_THIRTEEN, NEAR_30_METRES, NOISE_PLACES, PASSES, SHAPES, SMALL_RECORDS, SMALL_T, SPECIAL, WAYS, added_noise,
-                    at_each_gauge, basin, count_of, curve_rivers, dam, dam_edits, dam_river, dam_table, float_bits, float_edits, float_river,
-                    float_rivers, float_rows, float_table, gauge, gauged_reaches, in_floats, last_places, mean_inflow_rivers, near_halves,
-                    noise_edges, noise_edits, noise_orders, noise_river, noise_rivers, noise_table, piece_of, rule_edits, reach,
-                    river_of_curves, small_river, small_table, some_curve, some_records, some_stage, some_table, some_trouble, spoiled,
-                    spoiled_values, stage_bits, stages_of, taking_curve)
+                    at_each_gauge, basin, count_of, curve_rivers, dam, dam_edits, dam_river, dam_table, float_bits, float_edits,
+                    float_river, float_rivers, float_rows, float_table, gauge, gauged_reaches, in_floats, last_places, mean_inflow_rivers,
+                    near_halves, noise_edges, noise_edits, noise_orders, noise_river, noise_rivers, noise_table, piece_of, rule_edits,
+                    reach, river_of_curves, small_river, small_table, some_curve, some_records, some_stage, some_table, some_trouble,
+                    spoiled, spoiled_values, stage_bits, stages_of, taking_curve)
 
 LARGEST = 2 ** 64 - 1
 ROOM_FOR_ALL = 4 * 64 * 13
@@ -1343,7 +1343,8 @@ def looks_at_fourteen(random):
 def rates_without_noise(random):
     """A gap, a stage of 13 and gauges that are not there, where a noise would pass C."""
     table = table_bytes(gauged_reaches(PASSES, (200, 100, 20_000, -500)))
-    return rate_calls("no noise", random, table, [(number, stage) for number in (0, 1, 2, 3, LARGEST) for stage in (14_000, GAP, 30_001, 65_534)])
+    asked = product((0, 1, 2, 3, LARGEST), (14_000, GAP, 30_001, 65_534))
+    return rate_calls("no noise", random, table, asked)
 
 
 def rates_of_largest_noise(random):
@@ -1358,7 +1359,8 @@ def random_noise_looks(random):
     """Any gauges of version 2 with stages that they take, and others."""
     table = some_table(random, 16, "chain", "typical", gauge_count=16, version=2)
     for number, each in enumerate(table["gauges"], 1):
-        yield from rate_calls("random", random, table_bytes(table), [(number, some_stage(random, each)), (number, random.randint(0, 30_000))])
+        asked = [(number, some_stage(random, each)), (number, random.randint(0, 30_000))]
+        yield from rate_calls("random", random, table_bytes(table), asked)
 
 
 def noise_tables_spoiled(random):
@@ -1368,8 +1370,8 @@ def noise_tables_spoiled(random):
         value = random.choice(spoiled_values(NOISE[at]))
         for name, table in (("cut", NOISE[:at]), ("cut, as its length says", big_endian(at - 4, 4) + NOISE[4:at]),
                             (f"spoiled by {value}", spoiled(NOISE, at, value))):
-            yield Call(f"table {name} at {at}", random.choice(entries), table, state, record, lent_numbers(random, 208), random.randrange(2),
-                       asked=(random.choice((1, 2)), 1_500))
+            yield Call(f"table {name} at {at}", random.choice(entries), table, state, record, lent_numbers(random, 208),
+                       random.randrange(2), asked=(random.choice((1, 2)), 1_500))
     for extra in (1, 2, 4, 48):
         yield Call(f"table longer by {extra}", "check", big_endian(len(NOISE) - 4 + extra, 4) + NOISE[4:] + bytes(extra), state)
 
@@ -1386,7 +1388,7 @@ def table_versions(random):
 
 
 def in_either_table(random, table, records):
-    """Each call on the table in version 1, and in version 2 with β 0: check, start, rates, and by record a trial, a step and a forecast."""
+    """Each call on the table in version 1, and in version 2 with β 0: check, start, rates, and by record trial, step and forecast."""
     one, two = (table_bytes(table | dict(version=version, gauges=[each | dict(beta=0) for each in table["gauges"]])) for version in (1, 2))
 
     def both_tables(entry, state, record=b"", room=0, asked=(0, 0)):

@@ -8,9 +8,9 @@ The library is target/staticlib/libriver.a unless another path is given; tests/c
 are the refusal, all 450 numbers of the lent state, the count and all lent numbers, what a rate answers, or the bits of what a display gets,
 and whether the host's own memory stayed as it was.
 Some neighbouring calls are held against each other too, whatever the calculator says: a trial against the step that follows it, two trials
-that differ in one gauge's reading, two calls with the same readings in records of either version, and two with the same numbers in tables of
-either version. Runs from a start are judged by the run in fractions too. The last line is "calls: N calls in M cases, F failed"; the exit
-code is 0 only where none failed. A failed case can be made again by its seed and number.
+that differ in one gauge's reading, two calls with the same readings in records of either version, and two with the same numbers in tables
+of either version. Runs from a start are judged by the run in fractions too. The last line is "calls: N calls in M cases, F failed"; the
+exit code is 0 only where none failed. A failed case can be made again by its seed and number.
 """
 import argparse
 import subprocess

@@ -1,7 +1,7 @@
 #!/usr/bin/env python3
 """Tries the built program on generated inputs and judges every output by judge.py; where an input has a twin, the same readings in records
-of version 1 or the same numbers in a table of version 1, the program must print the same for both, whatever the calculator says. So with the
-floats around every half millimetre, too many to be worked out here: the calculator gives their millimetres alone.
+of version 1 or the same numbers in a table of version 1, the program must print the same for both, whatever the calculator says. So with
+the floats around every half millimetre, too many to be worked out here: the calculator gives their millimetres alone.
 
     python3 tests/generated.py [--long] [--seed S] [--only K] [program]
 

@@ -446,6 +446,7 @@ def noise_edits():
         add(7, *(with_gauge(place, beta=beta) for beta in (0, 1, 256, 499, 500, 501, 512, 1_000, 32_768, 65_535)))
         add(7, with_gauge(place, R=0), with_gauge(place, R=CEILING + 1), with_gauge(place, used=0), with_gauge(place, used=6))
     add(7, with_gauge(0, element=4), with_gauge(1, element=3), with_gauge(1, element=5))
+    add(7, *(with_element(place, kind=3, lag=0) for place in (2, 3)))  # a dam where a gauge stands
     add(7, *(three_pieces(place, **{name: 1}) for place in (3, 4) for name in ("top", "a", "b")))
     for which in (0, 2):
         add(14, *(with_record(which, stages=(stage, GAP)) for stage in (499, 500, 14_642, 14_643)))
@@ -490,7 +491,8 @@ def lowest_wins():
     yield "11 and 10", edited([with_record(1, rains=(3_001,), version=0)])
     yield "16 in element 1, 14 in gauge 2", edited([with_element(0, area=400_000), with_record(0, rains=(3_000, 0), stages=(GAP, 29_999)),
                                                     three_pieces(2, b=-30_000), with_record(1, rains=(3_000, 0), stages=(GAP, 30_000))])
-    # 24 elements told as 1 element and 13 gauges: the length is right either way (23 x 26 = 13 x 46); in version 2 so are 25 (24 x 26 = 13 x 48).
+    # 24 elements told as 1 element and 13 gauges: the length is right either way (23 x 26 = 13 x 46). In version 2 it is so of 25 elements
+    # (24 x 26 = 13 x 48).
     told = dict(T=60, L=1, N=1, M=13, elements=[reach() for _ in range(24)], gauges=[])
     yield "24 elements told as 1 and 13 gauges", whole_input(told, [((), ())])
     yield "25 elements told as 1 and 13 gauges", whole_input(told | dict(version=2, elements=[reach() for _ in range(25)]), [((), ())])
@@ -1035,7 +1037,8 @@ def noise_orders():
         yield f"16 in gauge 1, {name} in gauge 2, floats", two, [((), floats, (), 2), good]
     last = gauged_reaches((200, 100, 20_000, -500), PASSES)
     yield "14 in gauge 1, 16 in gauge 2", last, [((), (499, 14_000)), ((), (2_000, 14_000)), ((), (2_000, GAP))]
-    wet = gauged_reaches() | dict(elements=[basin(area=400_000, down=2), reach(down=3), dam()], gauges=[gauge(2, PASSES[0], beta=PASSES[1])])
+    wet = dict(version=2, T=60, L=1, elements=[basin(area=400_000, down=2), reach(down=3), dam()],
+               gauges=[gauge(2, PASSES[0], beta=PASSES[1])])
     yield "12, 17 and 16", wet, [((rain,), (14_000,), (release,)) for rain, release in (
         (3_001, CEILING + 1), (0, CEILING + 1), (0, 5), (3_000, 5))] + [((0,), (8_000,), (5,))]
 
@@ -1164,8 +1167,8 @@ def too_many_elements(version, count, gauge_count):
 
 
 def table_sizes():
-    """(name, build): 64 elements and 16 gauges in tables of all sizes about the longest: the one that fits is taken, others have 4 up to 2,442
-    bytes in all and 1 above."""
+    """(name, build): 64 elements and 16 gauges in tables of all sizes about the longest: the one that fits is taken, others have 4 up to
+    2,442 bytes in all and 1 above."""
     for version, sizes in ((1, (2_409, 2_410, 2_411, 2_412, 2_441, 2_442, 2_443)), (2, (2_410, 2_411, 2_441, 2_442, 2_443, 2_444))):
         for size in sizes:
             yield f"version {version}, {size:,} bytes", lambda random, version=version, size=size: longest_river(random, version, size)

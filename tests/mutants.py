@@ -2354,12 +2354,12 @@ WRONG_FLOATS = (ProductIn32Bits, SumIn32Bits, MillimetresCutOff, HalvesToEven, H
                 ThirteenForEighteen, ThirteenForHighFloats, ThirteenOnHalves, EighteenForThirteen, EighteenAfterFourteen,
                 EighteenWithFourteen, EighteenBeforeSeventeen, EighteenAsGap)
 # And of wrong noises and tables of version 2.
-WRONG_NOISES = (BetaIgnored, TNotRounded, TRoundedUp, NoiseRoundedUp, NoiseNotSquared, NoiseWithoutR, LargerNoise, NoiseOfUnroundedZ, RInGain,
-                RInGainAlone, RInGainMargin, RInVariance, RInVarianceAlone, RInVarianceMargin, RInProduct, BetaOfFirstGauge, BetaOfNextGauge,
-                LowByteOfBeta, VersionOneWithBeta, NoiseAboveCeilingTaken, NoiseNotJudged, NoiseOfCeilingRefused, NoiseCutOff,
-                NoisyReadingAsGap, NoiseWithFourteen, FourteenForNoise, NoiseBeforeZ, NoiseOfGapJudged, TableVersionTwoRefused,
-                TableVersionThreeTaken, GaugesOf46Bytes, GaugesOf48Bytes, BetaFromLastByte, BetaBeforeGauge, BetaInVersionOne, BetaNotJudged,
-                BetaAboveHighestTaken, HighestBetaRefused)
+WRONG_NOISES = (BetaIgnored, TNotRounded, TRoundedUp, NoiseRoundedUp, NoiseNotSquared, NoiseWithoutR, LargerNoise, NoiseOfUnroundedZ,
+                RInGain, RInGainAlone, RInGainMargin, RInVariance, RInVarianceAlone, RInVarianceMargin, RInProduct, BetaOfFirstGauge,
+                BetaOfNextGauge, LowByteOfBeta, VersionOneWithBeta, NoiseAboveCeilingTaken, NoiseNotJudged, NoiseOfCeilingRefused,
+                NoiseCutOff, NoisyReadingAsGap, NoiseWithFourteen, FourteenForNoise, NoiseBeforeZ, NoiseOfGapJudged,
+                TableVersionTwoRefused, TableVersionThreeTaken, GaugesOf46Bytes, GaugesOf48Bytes, BetaFromLastByte, BetaBeforeGauge,
+                BetaInVersionOne, BetaNotJudged, BetaAboveHighestTaken, HighestBetaRefused)
 # Of these, what the same numbers in tables of both versions show without the calculator, β being 0.
 APART_BY_TABLE = (TableVersionTwoRefused, GaugesOf46Bytes, GaugesOf48Bytes, BetaBeforeGauge, BetaInVersionOne, VersionOneWithBeta)
 # Of wrong floats, what the same readings in both versions show.
@@ -2369,10 +2369,10 @@ WRONG_DISPLAYS = (DisplayMultiplied, DisplayDividedTwice, DisplayIn32Bits, Displ
                   DisplayChangedOver, DisplayNotJudged, DisplayDischargeJudged, DisplayMarginJudged, DisplayLowHalvesJudged,
                   DisplayOfCeilingRefused)
 # Rules by which trials alone are worked out: what only they can have wrong, and wrong steps.
-WRONG_TRIALS = (FifteenAfterSixteen, NoiseBeforeFifteen, FifteenBeforeFourteen, FifteenBeforeEighteen, FifteenBeforeSeventeen, FifteenBeforeTen,
-                FifteenBeforeNine, FifteenBeforeEight, FifteenBeforeTable, NineNotGiven, FiguresBeforeStep, FiguresOfLeadOne,
-                FiguresBeforeCorrection, FiguresOnePlaceEarly, ReadingOnElementBefore, ReadingOnElementAfter, ReadingOnElementsAbove,
-                DamPassesVarianceOn)
+WRONG_TRIALS = (FifteenAfterSixteen, NoiseBeforeFifteen, FifteenBeforeFourteen, FifteenBeforeEighteen, FifteenBeforeSeventeen,
+                FifteenBeforeTen, FifteenBeforeNine, FifteenBeforeEight, FifteenBeforeTable, NineNotGiven, FiguresBeforeStep,
+                FiguresOfLeadOne, FiguresBeforeCorrection, FiguresOnePlaceEarly, ReadingOnElementBefore, ReadingOnElementAfter,
+                ReadingOnElementsAbove, DamPassesVarianceOn)
 WRONG_STEPS = (ReadingsIgnored, ReadingsIgnoredByZeroGain, ReadingTakenWhole, CorrectionVarianceKept, GainMarginTwo, GapAsStage65535,
                GapAsStageZero, UncorrectedInflow, VarianceWeightNotSquared, SystemNoiseLeftOut, NextPieceAtTop, LastReadingForAll,
                SumOfNewOutflows, OldForNew, NewForOldInSteps, DamNewReleaseAsOld, DamOldMarginLeftOut, NoMarginWhereNoneDrains, SumJudged,
@@ -2643,11 +2643,13 @@ WRONG_DISPLAYS_IN_C = {
     "a refused display shows its margin": (SHOW_REFUSED, SHOW_REFUSED.replace(" 0}", " in_cubic_metres(margin)}")),
     "a refused display shows minus zero": (SHOW_REFUSED, SHOW_REFUSED.replace("16, 0,", "16, -0.0,")),
 }
-T_ROUNDED, RATED = "    u64 t = beta(table, g) * z / 1000000;\n", "    return (river_rating){0, z, be4(g + NOISE) + t * t / 1000, pieces};\n"
+T_ROUNDED = "    u64 t = beta(table, g) * z / 1000000;\n"
+RATED = "    return (river_rating){0, z, be4(g + NOISE) + t * t / 1000, pieces};\n"
 BETA_READ, BETA_JUDGED = "return t->version == 2 ? be2(g + BETA) : 0;", " && beta(t, g) <= HIGHEST_BETA;"
 TABLE_VERSIONS = "    if (t->version != 1 && t->version != 2) return 2;\n"
 GAUGE_SIZES, NOISE_JUDGED = "    t->gauge_bytes = t->version == 2 ? 48 : 46;\n", "    if (noise > CEILING) return 1;\n"
-FOURTEEN, RATE_JUDGED = "        if (found.refusal) return 14;\n", "    return found.noise > CEILING ? (river_rating){16, 0, 0, found.pieces} : found;\n"
+FOURTEEN, RATE_LOOKS = "        if (found.refusal) return 14;\n", "    river_rating found = look(&t,"
+RATE_JUDGED = "    return found.noise > CEILING ? (river_rating){16, 0, 0, found.pieces} : found;\n"
 # A reading that has R as well.
 WITH_R = ("typedef struct { u64 element, z, noise; } Reading;", "typedef struct { u64 element, z, noise, r; } Reading;",
           "(Reading){g[ELEMENT], found.discharge, found.noise};", "(Reading){g[ELEMENT], found.discharge, found.noise, be4(g + NOISE)};",
@@ -2656,7 +2658,7 @@ GAIN, GAIN_MARGIN = "SCALE * f->variance / total", "SCALE * f->variance_margin /
 VARIANCE, VARIANCE_MARGIN = "f->variance * noise / total", "f->variance_margin * noise / total + 2"
 # These are tried by the cases of noises and of tables of version 2 alone.
 WRONG_NOISES_IN_C = {
-    "beta is ignored": (BETA_READ, "return t->version == 2 ? 0 : 0;"),
+    "beta is ignored": (BETA_READ, "return 0;"),
     "t is not rounded": (T_ROUNDED + RATED, "    u64 t = beta(table, g) * z;\n    return (river_rating){0, z, be4(g + NOISE) + "
                          "(u64)((unsigned __int128)t * t / 1000000000000000), pieces};\n"),
     "t is rounded up": (T_ROUNDED, T_ROUNDED.replace("z / 1000000", "z / 1000000 + (beta(table, g) * z % 1000000 > 0)")),
@@ -2676,13 +2678,12 @@ WRONG_NOISES_IN_C = {
     "R is left in the margin of the variance": (*WITH_R, VARIANCE_MARGIN, "f->variance_margin * r / less + 2"),
     "a noise above C is taken": (NOISE_JUDGED, ""),
     "a noise of C is refused": (NOISE_JUDGED, NOISE_JUDGED.replace(">", ">=")),
-    "R alone is judged": (*WITH_R[:4], NOISE_JUDGED, "    if (reading->r > CEILING) return 1;\n"),
     "a noise above C is cut off": (NOISE_JUDGED, "    if (noise > CEILING) noise = CEILING;\n"),
     "a noise above C is a gap": (FOURTEEN, FOURTEEN + "        if (found.noise > CEILING) continue;\n"),
     "a noise is judged with 14, gauge by gauge": (FOURTEEN, FOURTEEN + "        if (found.noise > CEILING) return 16;\n"),
     "14 is given for a noise": (FOURTEEN, FOURTEEN.replace("found.refusal", "found.refusal || found.noise > CEILING")),
-    "a gap's noise is judged": (GAP_PASSED, "        u64 most = beta(t, g) * 4000ull;\n        if (stages[k] == GAP && most && be4(g + NOISE) + "
-                                "most * most / 1000 > CEILING) return 16;\n" + GAP_PASSED),
+    "a gap's noise is judged": (GAP_PASSED, "        u64 most = beta(t, g) * 4000ull;\n        if (stages[k] == GAP && most && "
+                                "be4(g + NOISE) + most * most / 1000 > CEILING) return 16;\n" + GAP_PASSED),
     "a beta of 501 is taken": (BETA_JUDGED, BETA_JUDGED.replace("HIGHEST_BETA", "HIGHEST_BETA + 1")),
     "a beta of 500 is refused": (BETA_JUDGED, BETA_JUDGED.replace("<=", "<")),
     "a beta is not judged": (BETA_JUDGED, ";"),
@@ -2697,7 +2698,7 @@ WRONG_NOISES_IN_C = {
     "version 1 has gauges of 48 bytes": (GAUGE_SIZES, "    t->gauge_bytes = 48;\n"),
     "a look hands out R with 14": ("return (river_rating){14, 0, 0, pieces};", "return (river_rating){14, 0, be4(g + NOISE), pieces};"),
     "a rate tells no noise": (RATE_JUDGED, "    found.noise = 0;\n" + RATE_JUDGED),
-    "a rate tells R": (RATE_JUDGED, RATE_JUDGED + "    ", "    river_rating found = look(&t,", "    t.version = 1;\n    river_rating found = look(&t,"),
+    "a rate tells R": (RATE_LOOKS, "    t.version = 1;\n" + RATE_LOOKS),
     "a rate does not judge its noise": (RATE_JUDGED, "    return found;\n"),
     "a rate refuses a noise of C": (RATE_JUDGED, RATE_JUDGED.replace(">", ">=")),
     "a rate gives 14 for a noise": (RATE_JUDGED, RATE_JUDGED.replace("16", "14")),
@@ -2705,8 +2706,8 @@ WRONG_NOISES_IN_C = {
     "a rate refused by 16 tells its discharge": (RATE_JUDGED, RATE_JUDGED.replace("16, 0,", "16, found.discharge,")),
     "a rate refused by 16 tells its noise": (RATE_JUDGED, RATE_JUDGED.replace("0, 0, found", "0, found.noise, found")),
     "a rate of a gap tells R": ("gauge > t.gauge_count) return (river_rating){refusal, 0, 0, 0};",
-                                "gauge > t.gauge_count)\n        return (river_rating){refusal, 0, !refusal && gauge == 1 && t.gauge_count ? "
-                                "be4(t.gauges + NOISE) : 0, 0};"),
+                                "gauge > t.gauge_count)\n        return (river_rating){refusal, 0, "
+                                "!refusal && gauge == 1 && t.gauge_count ? be4(t.gauges + NOISE) : 0, 0};"),
 }
 WRONG_IN_C |= WRONG_INFLOWS_IN_C | WRONG_FLOATS_IN_C | WRONG_NOISES_IN_C | WRONG_DISPLAYS_IN_C
 
@@ -2838,7 +2839,7 @@ def try_programs():
 
 
 def try_versions():
-    """Wrong programs that print another output for the same readings, or table, in version 1: how many were tried and how many not caught."""
+    """Wrong programs that print another output for the same readings, or table, in version 1: how many tried and how many not caught."""
     missed = 0
     for family, wrongs, words in (("float: ", APART_BY_VERSION, "versions"), ("noise: ", APART_BY_TABLE, "tables")):
         pairs = [[build(random_for(SEED, number)) for build in (given.build, given.twin)]

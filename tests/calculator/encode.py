@@ -1,7 +1,7 @@
 """Tables and records as bytes from plain Python values. Nothing is checked here: wrong values make the wrong tables that the tests need.
 
-A table is a dict: T, L, elements, gauges and, where it is not 1, version; an element a dict of ELEMENT_FIELDS, a gauge a dict of element, R,
-pieces (up to five of (top, a, b)), where it shall differ from the count of pieces, used, and for version 2 beta, if it is not 0.
+A table is a dict: T, L, elements, gauges and, where it is not 1, version; an element a dict of ELEMENT_FIELDS, a gauge a dict of element,
+R, pieces (up to five of (top, a, b)), where it shall differ from the count of pieces, used, and for version 2 beta, if it is not 0.
 """
 from struct import pack
 
@@ -29,7 +29,7 @@ def beta_bytes(gauge):
 
 
 def table_bytes(table):
-    """`with_beta`, `N`, `M` and `length` may be given to differ from what the rest says: gauges end with β in version 2 and in no other."""
+    """`with_beta`, `N`, `M` and `length` may be given to differ from what the rest says: gauges end with β in version 2 and no other."""
     elements, gauges, version = table["elements"], table["gauges"], table.get("version", 1)
     with_beta = table.get("with_beta", version == 2)
     body = b"".join(map(element_bytes, elements))

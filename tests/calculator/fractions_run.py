@@ -1,5 +1,5 @@
-"""Document 01, "The run in fractions", with M-100's dams, M-102's trials, M-103's unrounded half sums, M-104's floats, of which it takes the
-whole millimetres, and M-105's noise, which is given to it: the same steps with exact F, no rounding, no margins and no ceiling.
+"""Document 01, "The run in fractions", with M-100's dams, M-102's trials, M-103's unrounded half sums, M-104's floats, of which it takes
+the whole millimetres, and M-105's noise, which is given to it: the same steps with exact F, no rounding, no margins and no ceiling.
 
 It is fed an accepted table, the records of accepted steps and nothing else, decodes them by itself and keeps its own state, so that it
 shares no line with whole_numbers.py.

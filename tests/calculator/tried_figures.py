@@ -23,8 +23,8 @@ def one_reach(pieces, down=0):
 
 
 def check_noise():
-    """M-105: (β, R, z, noise), by hand. β 100 is ten per cent of the discharge: of 50 m³/s 5 m³/s, whose square is 25,000 in the unit of
-    variances."""
+    """M-105: (β, R, z, noise), by hand. β 100 is ten per cent of the discharge: of 50 m³/s 5 m³/s, whose square is 25,000 in the unit
+    of variances."""
     for beta, R, z, noise in ((0, 7, 4_000_000_000, 7), (100, 200, 50_000_000, 25_200), (100, 200, 50_009_999, 25_200),
                               (100, 200, 50_010_000, 25_210), (1, 5, 31_999_999, 5), (1, 5, 32_000_000, 6), (500, 1, 63_999, 1),
                               (500, 1, 64_000, 2), (499, 3, 2_000_000_000, 996_004_003), (500, 1, 4_000_000_000, 4_000_000_001)):
