@@ -7,7 +7,7 @@
             paper_figures.py works out
   inputs    each block of hex there, given to the calculator and to the built program, prints the block of text after it
   files     one of these blocks is examples/three-elements/river.hex, and what it prints expected.txt there; floats.hex there prints the
-            same, but for the number of the refusal
+            same, but for the number of the refusal; proportional-noise.hex prints its own expected output, with β 0 that of river.hex
   lines     each printed line that these pages, README.md and examples/c/README.md show stands in an expected output
 
 --show prints the numbers of one example as the calculator has them, to write the page by. The program is target/bin/cabinet unless
@@ -19,7 +19,7 @@ import subprocess
 import sys
 from pathlib import Path
 
-from calculator.program import run
+from calculator.program import cut_table, run
 from paper_figures import bytes_of_hex, sample_worked, worked
 
 ROOT = Path(__file__).resolve().parent.parent
@@ -98,15 +98,20 @@ def inputs(page, program):
 
 
 def files(page, program):
-    """The example river in the page and in its own files, and what it prints where its stages are floats."""
+    """The example river in the page and in its own files, and what it prints where its stages are floats and where its gauge has a β."""
     complaints, folder = [], ROOT / "examples/three-elements"
     for kind, name in (("hex", "river.hex"), ("text", "expected.txt")):
         if (kind, (folder / name).read_text()) not in BLOCK.findall(page):
             complaints.append(f"METHOD.md does not have examples/three-elements/{name} as it stands")
-    floats, expected = bytes_of_hex((folder / "floats.hex").read_text()), (folder / "expected.txt").read_text()
-    for name, printed in (("calculator", run(floats)), ("program", program_output(program, floats))):
-        if printed.decode() != expected.replace("refused 13", "refused 18"):
-            complaints.append(f"for examples/three-elements/floats.hex the {name} prints something else than expected.txt with 18 for 13")
+    expected, with_beta = ((folder / name).read_text() for name in ("expected.txt", "proportional-noise-expected.txt"))
+    floats, noise = (bytes_of_hex((folder / name).read_text()) for name in ("floats.hex", "proportional-noise.hex"))
+    size = len(cut_table(noise))
+    without_beta = noise[:size - 2] + bytes(2) + noise[size:]
+    for words, data, right in (("floats.hex", floats, expected.replace("refused 13", "refused 18")),
+                               ("proportional-noise.hex", noise, with_beta), ("proportional-noise.hex with β 0", without_beta, expected)):
+        for name, printed in (("calculator", run(data)), ("program", program_output(program, data))):
+            if printed.decode() != right:
+                complaints.append(f"for examples/three-elements/{words} the {name} prints something else than stands there")
     return complaints
 
 

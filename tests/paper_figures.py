@@ -19,8 +19,8 @@ from calculator.encode import float_bits, record_bytes, table_bytes
 from calculator.floats import GAP_BITS
 from calculator.fractions_run import ExactNumbers, FractionsRun, exact_weight
 from calculator.program import Program, cut_records, cut_table, run
-from calculator.whole_numbers import (BASIN, CEILING, DAM, GAP, HIGHEST_STAGE, REACH, RULES, SCALE, Element, Figures, Piece, Refused, Rules,
-                                      State, decode_table, record_fields)
+from calculator.whole_numbers import (BASIN, CEILING, DAM, GAP, HIGHEST_STAGE, LAST_TOP, REACH, RULES, SCALE, Element, Figures, Gauge,
+                                      Piece, Refused, Rules, State, decode_table, record_fields)
 
 ROOT = Path(__file__).resolve().parent.parent
 SAMPLE_FOLDER = ROOT / "examples/yubetsu-2001"
@@ -246,8 +246,10 @@ class ExampleRiver:
 
 
 THREE_ELEMENTS, ONE_DAM, FLOATS = ExampleRiver("three-elements"), ExampleRiver("one-dam"), ExampleRiver("three-elements", "floats.hex")
+PROPORTIONAL = ExampleRiver("three-elements", "proportional-noise.hex")
 RIVER, TABLE, RECORDS, ELEMENTS = THREE_ELEMENTS.data, THREE_ELEMENTS.table, THREE_ELEMENTS.records, THREE_ELEMENTS.elements
 LENT = [0] * 48
+LOOK_PIECES = (1_000, 20_000, -500), (2_500, 15_000, -300), (LAST_TOP, 12_000, 200)
 
 
 # ---- The examples, in the page's order ---------------------------------------------------------------------------------------------------
@@ -311,6 +313,14 @@ def margin_products(blend):
             f"{n(blend.of_weight)} gives {n(of_weight)}; plus 3: {n(blend.margin)}")
 
 
+def margin_quotients(blend):
+    """A blend's margin as the sum of its two quotients and 3."""
+    of_margins, of_weight = blend.of_margins // SCALE, blend.of_weight // SCALE
+    assert of_margins + of_weight + 3 == blend.margin
+    return (f"[({n(blend.weight)} × {n(blend.x_margin)} + {n(SCALE - blend.weight)} × {n(blend.y_margin)}) / S] + [{n(blend.weight_margin)} × "
+            f"({n(blend.gap)} + {n(blend.x_margin)} + {n(blend.y_margin)}) / S] + 3 = {n(of_margins)} + {n(of_weight)} + 3 = {n(blend.margin)}")
+
+
 def one_move():
     rules = Noted()
     weight = rules.weight(60, 120)
@@ -347,6 +357,85 @@ def one_reading():
     {n(1_400)} − {n(-piece.b)} = {n(1_400 + piece.b)}; {n(piece.a)} × {n(1_400 + piece.b)}² / {n(1_000)} = {n(z)}, margin 1
     {reading_written(rules, before, z, 200, after, NUMBERS.corrected(*EXACT, Fraction(z), 200))}
     {n(after.discharge)} {n(after.margin)} {after.variance} {after.variance_margin}"""
+
+
+def look_gauge():
+    """The gauge with a curve of three pieces, R 1,000 and β 50."""
+    gauges = [dict(element=1, R=1_000, pieces=LOOK_PIECES, beta=50)]
+    return decode_table(table_bytes(dict(version=2, T=60, L=1, elements=[dict(kind=REACH, lag=60)], gauges=gauges))).gauges[0]
+
+
+def noise_parts(gauge, z):
+    """β × z / 1,000,000, t, t × t / 1,000 and the noise, by document 02's own words; the calculator must have the same noise."""
+    share = Fraction(gauge.beta * z, 10 ** 6)
+    t = int(share)
+    square = Fraction(t * t, 1_000)
+    noise = RULES.noise(gauge, z)
+    assert noise == gauge.noise + int(square), (gauge, z, noise)
+    return share, t, square, noise
+
+
+def noise_written(gauge, z):
+    """The noise as the page adds it up."""
+    _, _, square, noise = noise_parts(gauge, z)
+    return f"{n(gauge.noise)} + {n(int(square))} = {n(noise)}"
+
+
+def noise_without(gauge, z):
+    """The noise where t is not rounded, which must be another."""
+    noise = gauge.noise + int(Fraction(gauge.beta * z, 10 ** 6) ** 2 / 1_000)
+    assert noise != RULES.noise(gauge, z)
+    return noise
+
+
+def noises_of_readings():
+    gauge, rows, rated = look_gauge(), [], {}
+    for stage in (500, 999, 1_000, 2_499, 2_500):
+        found = RULES.look(gauge, stage)
+        rated[stage] = z = found.discharge
+        share, t, square, noise = noise_parts(gauge, z)
+        assert found.noise == noise and not found.refusal
+        rows.append(f"{n(stage)} {n(z)} {d(share)} {n(t)} {d(square)} {noise_written(gauge, z)} {root(noise, 2)}")
+    piece, depth = Piece(LAST_TOP, 32_860, 0), 2_565
+    steep, exact = Gauge(1, 1, gauge.noise, (piece,), 150), Fraction(piece.a * depth ** 2, 1_000)
+    z = RULES.curve(piece, depth)
+    share, t, _, noise = noise_parts(steep, z)
+    other = int(steep.beta * exact / 10 ** 6)
+    assert RULES.look(steep, depth).noise == noise and other != t
+    return f"""{n(gauge.noise)} {gauge.beta} {n(10 ** 6)} {n(1_000)} {" ".join(rows)}
+    {n(1_000)} {n(noise_without(gauge, rated[1_000]))} {n(2_499)} {n(noise_without(gauge, rated[2_499]))}
+    {n(piece.a)} {n(depth)} {d(exact, 1)} {n(z)} {steep.beta} {d(share, 5)} {n(t)} {noise_written(steep, z)} {n(other)}
+    {n(steep.noise + other ** 2 // 1_000)}"""
+
+
+def high_water():
+    """One reading with β 100 and with β 0, and the same in fractions where river and variance are as far off as their margins."""
+    before, stage, columns = Figures(14_000_000, 4, 5_000, 10), 1_500, []
+    piece = Piece(LAST_TOP, 20_000, -500)
+    for beta in (100, 0):
+        rules, gauge = Noted(), Gauge(1, 1, 1_000, (piece,), beta)
+        refusal, z, noise, _ = rules.look(gauge, stage)
+        after, blend, total = rules.correct(before, z, noise), rules.blends[-1], before.variance + noise
+        gain = SCALE * before.variance // total
+        assert not refusal and blend.weight == SCALE - gain
+        columns.append((n(noise), f"[{n(SCALE)} × {n(before.variance)} / {n(total)}] = {n(gain)}",
+                        f"[{n(SCALE)} × {before.variance_margin} / {n(total)}] + 2 = {n(blend.weight_margin)}", blend.written(),
+                        margin_quotients(blend), f"[{n(before.variance)} × {n(noise)} / {n(total)}] = {n(after.variance)}",
+                        f"[{before.variance_margin} × {n(noise)} / {n(total)}] + 2 = {after.variance_margin}", after))
+    gauge, with_beta = Gauge(1, 1, 1_000, (piece,), 100), columns[0][-1]
+    _, t, square, noise = noise_parts(gauge, z)
+    x, v = before.discharge + before.margin, before.variance + before.variance_margin
+    exact = NUMBERS.corrected(Fraction(x), Fraction(v), Fraction(z), noise)
+    away = abs(exact[0] - with_beta.discharge), abs(exact[1] - with_beta.variance)
+    assert away[0] <= with_beta.margin and away[1] <= with_beta.variance_margin
+    rows = " ".join(" | ".join(pair) for pair in list(zip(*(column[:-1] for column in columns))))
+    return f"""{n(before.discharge)} {before.margin} {n(before.variance)} {before.variance_margin} {n(piece.a)} {n(piece.b)}
+    {n(gauge.noise)} {gauge.beta} {n(stage)} 0
+    {n(stage)} − {n(-piece.b)} = {n(stage + piece.b)}; {n(piece.a)} × {n(stage + piece.b)}² / {n(1_000)} = {n(z)}, margin 1
+    [{gauge.beta} × {n(z)} / {n(10 ** 6)}] = {n(t)} {n(z // 10 ** 6)} {n(t // 1_000)}
+    {n(gauge.noise)} + [{n(t)} × {n(t)} / {n(1_000)}] = {n(gauge.noise)} + {n(int(square))} = {n(noise)}
+    100 0 {rows} {root(with_beta.variance, 2)} {root(columns[1][-1].variance, 2)}
+    {n(x)} {n(v)} {n(noise)} {d(exact[0], 3)} {d(exact[1], 4)} {d(away[0], 1)} {d(away[1], 1)}"""
 
 
 def taken(bits):
@@ -445,10 +534,9 @@ def look_written(gauge, stage):
 
 
 def one_look():
-    pieces = (1_000, 20_000, -500), (2_500, 15_000, -300), (30_001, 12_000, 200)
-    gauge = decode_table(tried_figures.one_reach(pieces)).gauges[0]
+    gauge = decode_table(tried_figures.one_reach(LOOK_PIECES)).gauges[0]
     rows = [look_written(gauge, stage) for stage in (499, 500, 999, 1_000, 2_499, 2_500, 30_000)]
-    return " ".join([*(n(number) for piece in pieces for number in piece), *rows])
+    return " ".join([*(n(number) for piece in LOOK_PIECES for number in piece), *rows])
 
 
 def table_told():
@@ -536,12 +624,14 @@ def a_trial():
     stages = 1_670, 2_600
     records = [record_bytes((rain_1, rain_2), (each,)) for each in (GAP, *stages)]
     gap, plausible, doubtful = (RULES.trial(TABLE, record, state, LENT)[1] for record in records)
-    rated = [RULES.look(table.gauges[0], each).discharge for each in stages]
+    ratings = [RULES.look(table.gauges[0], each) for each in stages]
+    rated, (noise, same) = [each.discharge for each in ratings], [each.noise for each in ratings]
+    assert noise == same
     assert gap[:8] == plausible[:8] == doubtful[:8]
     rows = [f"element {place // 4 + 1}" * (place % 4 == 0) + f" {n(gap[place])} | {n(plausible[place])} | {n(doubtful[place])}"
             for place in range(12)]
     moved = [n(abs(answer[8] - gap[8])) for answer in (plausible, doubtful)]
-    noise, apart = table.gauges[0].noise, [abs(z - gap[8]) for z in rated]
+    apart = [abs(z - gap[8]) for z in rated]
     usual = ((gap[10] + noise) / 1_000) ** 0.5  # m3/s
     times = [each / 1_000_000 / usual for each in apart]
     return f"""2 {rain_1} {rain_2} {n(stages[0])} {n(rated[0])} {n(stages[1])} {n(rated[1])}
@@ -633,6 +723,118 @@ def noises():
     {element.area // 100} {element.runoff} 2 2 [5 × 20 × {n(element.area)} × {element.runoff} / 18] = {n(rain)} {rain // 10 ** 6}
     {rain // 10 ** 6} × {rain // 10 ** 6} × {n(1_000)} = {n(G)} lead 3 3 × {n(G)} = {n(ahead)} {root(ahead)}
     {n(703_935)} {d(Fraction(703_935, 1_000), 3)} {root(703_935)}"""
+
+
+# Gaugings of one gauge: stage and measured discharge in tenths of m³/s, low water and high.
+LOW_GAUGINGS = (800, 55), (900, 68), (1_000, 145), (1_100, 162)
+HIGH_GAUGINGS = (3_500, 4_950), (4_000, 5_635), (4_500, 8_480), (5_000, 8_910)
+
+
+def plain(number, places):
+    """A number that has no more than so many places, with a − where it is negative."""
+    assert Fraction(number) * 10 ** places % 1 == 0
+    return "\u2212" * (number < 0) + d(abs(number), places)
+
+
+def from_gaugings():
+    piece, rows = Piece(LAST_TOP, 50_000, -500), []
+
+    def deviations(gaugings):
+        """z, measured less z, and that as a share of z."""
+        for stage, tenths in gaugings:
+            z, measured = Fraction(RULES.curve(piece, stage), 10 ** 6), Fraction(tenths, 10)
+            yield stage, z, measured, measured - z, (measured - z) / z
+
+    low, high = (list(deviations(gaugings)) for gaugings in (LOW_GAUGINGS, HIGH_GAUGINGS))
+    for given, with_share in ((low, False), (high, True)):
+        for stage, z, measured, deviation, share in given:
+            rows.append(f"{n(stage)} {plain(z, 1)} {plain(measured, 1)} {plain(deviation, 1)} {plain(share, 2) if with_share else ''}")
+    shares, squares, rated = [share ** 2 for *_, share in high], [each[3] ** 2 for each in low], [each[1] ** 2 for each in low]
+    mean_share, mean_square, mean_rated = (sum(each) / len(each) for each in (shares, squares, rated))
+    beta = round(1_000 * float(mean_share) ** 0.5)
+    part = Fraction(beta, 1_000) ** 2 * mean_rated
+    R = round((mean_square - part) * 1_000)
+    gauge, readings = Gauge(1, 1, R, (piece,), beta), []
+    for z in (8, 800):
+        _, t, _, noise = noise_parts(gauge, z * 10 ** 6)
+        readings.append(f"{z} t = {n(t)} {noise_written(gauge, z * 10 ** 6)} {root(noise)}")
+
+    def mean(squares, places, mean_places):
+        written = " + ".join(plain(each, places) for each in squares)
+        return f"({written}) / {len(squares)} = {plain(sum(squares) / len(squares), mean_places)}"
+
+    return f"""{n(piece.a)} {n(piece.b)} {" ".join(rows)} {mean(shares, 4, 4)} {d(Fraction(float(mean_share) ** 0.5), 4)} {beta}
+    {mean(squares, 2, 2)} {mean(rated, 2, 3)} {plain(Fraction(beta, 1_000), 3)}² = {float(part):.4f}
+    {plain(mean_square, 2)} − {float(part):.4f} = {float(mean_square - part):.4f} {n(R)}
+    {" ".join(readings)} {root(R)}"""
+
+
+def gains():
+    """Noise and gain of one river with several β at low and at high water."""
+    R, doubt, rows, betas = 1_000, 10, [], (0, 50, 100, 200)
+    P = doubt ** 2 * 1_000
+    for z in (4, 40, 400):
+        cells = []
+        for beta in betas:
+            noted = Noted()
+            *_, noise = noise_parts(Gauge(1, 1, R, (), beta), z * 10 ** 6)
+            noted.correct(Figures(0, 0, P, 0), z * 10 ** 6, noise)
+            cells.append(f"{n(noise)} {d(Fraction(SCALE - noted.blends[-1].weight, SCALE // 100), 1)}")
+        rows.append(f"{z} {' '.join(cells)}")
+    river, beta, corrected = 400, 100, []
+    for z in (4, 796):
+        after = RULES.correct(Figures(river * 10 ** 6, 0, P, 0), z * 10 ** 6, noise_parts(Gauge(1, 1, R, (), beta), z * 10 ** 6)[3])
+        corrected.append(f"{z} {abs(z - river)} {d(Fraction(after.discharge, 10 ** 6), 1)}")
+    return f"{n(R)} {doubt} {n(P)} {' '.join(map(str, betas))} {' '.join(rows)} {beta} {river} {' '.join(corrected)}"
+
+
+def highest_noise():
+    """Where a noise passes C: the largest R by β, and the highest z with β 500; each and the next one are asked of the calculator."""
+    def refused(beta, R, z):
+        """Whether a river at 0 that is corrected by z is refused."""
+        return tried_figures.refusal(RULES.correct, Figures(0, 0, 0, 0), z, RULES.noise(Gauge(1, 1, R, (), beta), z)) == 16
+
+    rows = []
+    for beta in (0, 100, 200, 300, 400, 499, 500):
+        _, t, square, _ = noise_parts(Gauge(1, 1, 1, (), beta), CEILING)
+        largest = CEILING - int(square)
+        assert largest == 0 or not refused(beta, largest, CEILING) and refused(beta, largest + 1, CEILING)
+        rows.append(f"{beta} {n(t)} {n(int(square))} {n(largest) if largest else ''}")
+    tops = []
+    for R in (1_000, 2_000_000_000):
+        low, high = 0, CEILING  # accepted, refused
+        while high - low > 1:
+            middle = (low + high) // 2
+            low, high = (low, middle) if refused(500, R, middle) else (middle, high)
+        _, t, _, noise = noise_parts(Gauge(1, 1, R, (), 500), low)
+        tops.append(f"{n(R)} {n(low)} {n(t)} {n(noise)}")
+    return f"""{n(CEILING)} {n(1_000)} {" ".join(rows)} 500 {n(CEILING)} {n(RULES.noise(Gauge(1, 1, 0, (), 500), CEILING))}
+    {" ".join(tops)}"""
+
+
+def same_tables():
+    """The example river's table in both versions, its first reading in both, and what the two files print."""
+    rivers, rules = (THREE_ELEMENTS, PROPORTIONAL), (Noted(), Noted())
+    tables = [decode_table(river.table) for river in rivers]
+    gauge, (first, second) = tables[1].gauges[0], (river.table for river in rivers)
+    count, ends = len(tables[0].elements), [4 + int.from_bytes(river.table[:4], "big") for river in rivers]
+    assert first[5:] == second[5:-2] and THREE_ELEMENTS.records == PROPORTIONAL.records and ends == [len(first), len(second)]
+    lengths = [f"6 + 26 × {count} + {size} × 1 = {6 + 26 * count + size}" for size in (46, 48)]
+    assert ends == [4 + 6 + 26 * count + size for size in (46, 48)]
+    after = [river.after_steps(each, 1)[0].figures[2] for river, each in zip(rivers, rules)]
+    before, z = rules[0].moves[2].figures, rules[0].blends[-1].y
+    assert before == rules[1].moves[2].figures and z == rules[1].blends[-1].y
+    _, t, _, noise = noise_parts(gauge, z)
+    gains_and_margins = [(SCALE - each.blends[-1].weight, each.blends[-1].weight_margin) for each in rules]
+    rows = [" ".join(map(n, pair)) for pair in ((gauge.noise, noise), *zip(*gains_and_margins), *zip(*(each.numbers() for each in after)))]
+    printed = [Program(RULES).run(river.data).splitlines() for river in rivers]
+    same = sum(left == right for left, right in zip(*printed, strict=True))
+    without_beta = second[:-2] + bytes(2)
+    assert Program(RULES).run(without_beta + b"".join(PROPORTIONAL.records)).splitlines() == printed[0]
+    return f"""1 2 {gauge.beta} 1 2 {first[:4].hex().upper()} {second[:4].hex().upper()} {lengths[0]} 2 {lengths[1]}
+    {first[4:5].hex()} {second[4:5].hex()} 1 {second[-2:].hex()} {int.from_bytes(second[-2:], "big")}
+    {n(z)} {n(t)} {noise_written(gauge, z)} 3 {figures_written(before)} 1 2 {" ".join(rows)}
+    {same} {len(printed[0])} {without_beta[-2:].hex()} {len(printed[0])}"""
 
 
 def same_records():
@@ -818,7 +1020,7 @@ def failing_rain_line():
 
 
 def figures_to_try():
-    """Document 01's tried figures, which tried_figures.check() asks of the calculator once more, and the highest release."""
+    """Document 01's tried figures, which tried_figures.check() asks of the calculator once more, the highest release, and noises."""
     tried_figures.check()
     rules, piece = RULES, Piece(30_001, 20_000, -500)
     high = rules.correct(Figures(1_000_000, 0, 300, 0), 2_000_000, 100)
@@ -836,7 +1038,48 @@ def figures_to_try():
     1 1 {refused_with(down=1)} {n(3_000)} {n(3_001)} {refused_with(rain=3_001)} {n(30_000)} {n(30_001)} {refused_with(stage=30_001)}
     {n(CEILING)} {n(CEILING + 1)} {refused_with(release=CEILING + 1)} {n(30_001)}
     {refused_with(release=CEILING + 1, stage=30_001)}
+    {noises_to_try()} {tables_to_try()}
     36 60 60 {n(1_000)} {n(1_000)} 100"""
+
+
+def noises_to_try():
+    """The largest β, a noise of C and one above it, and that 14 and a trial's 15 come before its 16."""
+    stage, beta, R, beside = 1_500, 100, 1_000, CEILING - 4_000
+
+    def table(R, beta=beta, version=2):
+        noises = dict(R=R, beta=beta), dict(R=1_000, beta=0)
+        gauges = [dict(element=number, pieces=[(LAST_TOP, 20_000, -500)]) | noise for number, noise in enumerate(noises, 1)]
+        return table_bytes(dict(version=version, T=60, L=1, elements=[dict(kind=REACH, lag=60)] * 2, gauges=gauges))
+
+    def refused(table, *stages):
+        return Program(RULES).run(table + record_bytes((), stages)).splitlines()[-1].decode().partition("refused ")[2]
+
+    z = RULES.look(decode_table(table(R)).gauges[0], stage).discharge
+    _, t, square, noise = noise_parts(Gauge(1, 1, R, (), beta), z)
+    above = table(beside + 1)
+    assert beside + int(square) == CEILING and not refused(table(beside), stage, GAP) and not refused(table(R, 500), GAP, GAP)
+    assert not refused(above, GAP, GAP) and not refused(table(beside + 1, version=1), stage, GAP)
+    trial = tried_figures.refusal(RULES.trial, above, record_bytes((), (stage, GAP)), RULES.start(above, State()), [0] * 7)
+    return f"""{beta} {n(R)} {n(z)} {n(t)} {n(noise)} 500 501 {refused(table(R, 501), GAP, GAP)}
+    {beta} {n(z)} {n(beside)} {n(CEILING)} {n(beside + 1)} {refused(above, stage, GAP)} {n(-500)} 499 {refused(above, stage, 499)}
+    4 {trial}"""
+
+
+def tables_to_try():
+    """Versions, and the longest tables of both; longer ones have their last gauge twice, as far as there is space."""
+    def table(version, size=None):
+        gauges = [dict(element=number, R=1_000, pieces=[(LAST_TOP, 1, 0)]) for number in range(1, 17)]
+        made = table_bytes(dict(version=version, T=60, L=1, elements=[dict(kind=REACH, lag=60)] * 64, gauges=gauges))
+        size = size or len(made)
+        return len(made), (size - 4).to_bytes(4, "big") + (made + made[-48:])[4:size]
+
+    def refused(version, size=None):
+        return Program(RULES).run(table(version, size)[1]).decode().partition("refused ")[2].strip()
+
+    (one, _), (two, _) = table(1), table(2)
+    assert not refused(1) and not refused(2) and refused(0) == refused(3) and refused(1, one + 1) == refused(1, two)
+    assert refused(1, two + 1) == refused(2, two + 1)
+    return f"0 3 {refused(3)} 64 16 {n(one)} 1 {n(two)} 2 1 {n(one + 1)} {n(two)} {refused(1, two)} {n(two + 1)} {refused(2, two + 1)}"
 
 
 def refused_with(down=0, rain=3_000, release=0, stage=30_000):
@@ -851,11 +1094,13 @@ def worked():
     """By name of the example: its numbers as text, in the page's order."""
     return {"the weight": the_weight, "a rise in a straight line": straight_line, "one move": one_move,
             "from bits to millimetres": from_bits, "every pattern that a gauge can send": every_pattern, "one look along a curve": one_look,
-            "one reading": one_reading,
+            "the noise of a reading": noises_of_readings, "one reading": one_reading, "one reading at high water": high_water,
             "one step of a river": one_step, "one lead": one_lead, "the mean of the last rains": later_rains, "a trial": a_trial,
             "a river with a dam": river_with_a_dam,
             "the weight's 3": weight_errors,
-            "margins of the sample river": sample_margins, "noise from a doubt": noises, "the same records in both versions": same_records,
+            "margins of the sample river": sample_margins, "noise from a doubt": noises, "R and β from gaugings": from_gaugings,
+            "what β does to the gain": gains, "where a noise passes C": highest_noise, "the same table in both versions": same_tables,
+            "the same records in both versions": same_records,
             "rain, stage and curve": rain_and_curve,
             "the highest rain of a basin": basin_sizes, "the sum of variances": variance_sum,
             "a margin that grows from reading to reading": growing_margin,
