@@ -317,8 +317,9 @@ def margin_quotients(blend):
     """A blend's margin as the sum of its two quotients and 3."""
     of_margins, of_weight = blend.of_margins // SCALE, blend.of_weight // SCALE
     assert of_margins + of_weight + 3 == blend.margin
-    return (f"[({n(blend.weight)} × {n(blend.x_margin)} + {n(SCALE - blend.weight)} × {n(blend.y_margin)}) / S] + [{n(blend.weight_margin)} × "
-            f"({n(blend.gap)} + {n(blend.x_margin)} + {n(blend.y_margin)}) / S] + 3 = {n(of_margins)} + {n(of_weight)} + 3 = {n(blend.margin)}")
+    return (f"[({n(blend.weight)} × {n(blend.x_margin)} + {n(SCALE - blend.weight)} × {n(blend.y_margin)}) / S] + "
+            f"[{n(blend.weight_margin)} × ({n(blend.gap)} + {n(blend.x_margin)} + {n(blend.y_margin)}) / S] + 3 = "
+            f"{n(of_margins)} + {n(of_weight)} + 3 = {n(blend.margin)}")
 
 
 def one_move():
@@ -788,6 +789,24 @@ def gains():
     return f"{n(R)} {doubt} {n(P)} {' '.join(map(str, betas))} {' '.join(rows)} {beta} {river} {' '.join(corrected)}"
 
 
+def with_noises(data, R, beta):
+    """A river with its table in version 2, and this R and β at every gauge."""
+    table = cut_table(data)
+    gauges = 10 + 26 * len(decode_table(table).elements)
+    given = [table[at:at + 46] for at in range(gauges, len(table), 46)]
+    body = b"\2" + table[5:gauges] + b"".join(gauge[:2] + R.to_bytes(4, "big") + gauge[6:] + beta.to_bytes(2, "big") for gauge in given)
+    return len(body).to_bytes(4, "big") + body + data[len(table):]
+
+
+def several_betas():
+    R, rows, peaks = 1_000, [], {}
+    for beta in (0, 30, 100, 200):
+        both = [skill(Gauged(with_noises(SAMPLE.read_bytes(), R, beta), gauge, RULES), 1) for gauge in (0, 1)]
+        peaks[beta] = both[1][1]
+        rows.append(f"{beta} {' '.join(f'{error:.1f} {signed(peak)}' for error, peak, _ in both)}")
+    return f"2001 {n(R)} 1 {' '.join(rows)} 100 {-peaks[100]:.1f}"
+
+
 def highest_noise():
     """Where a noise passes C: the largest R by β, and the highest z with β 500; each and the next one are asked of the calculator."""
     def refused(beta, R, z):
@@ -821,12 +840,16 @@ def same_tables():
     assert first[5:] == second[5:-2] and THREE_ELEMENTS.records == PROPORTIONAL.records and ends == [len(first), len(second)]
     lengths = [f"6 + 26 × {count} + {size} × 1 = {6 + 26 * count + size}" for size in (46, 48)]
     assert ends == [4 + 6 + 26 * count + size for size in (46, 48)]
-    after = [river.after_steps(each, 1)[0].figures[2] for river, each in zip(rivers, rules)]
+    steps = [river.after_steps(each, 1) for river, each in zip(rivers, rules)]
+    after, exact = [state.figures[2] for state, _ in steps], [fractions.figures[2] for _, fractions in steps]
+    assert all(abs(left - right) <= margin for figures, pair in zip(after, exact)
+               for left, right, margin in zip(figures.numbers()[::2], pair, figures.numbers()[1::2]))
     before, z = rules[0].moves[2].figures, rules[0].blends[-1].y
     assert before == rules[1].moves[2].figures and z == rules[1].blends[-1].y
     _, t, _, noise = noise_parts(gauge, z)
     gains_and_margins = [(SCALE - each.blends[-1].weight, each.blends[-1].weight_margin) for each in rules]
     rows = [" ".join(map(n, pair)) for pair in ((gauge.noise, noise), *zip(*gains_and_margins), *zip(*(each.numbers() for each in after)))]
+    rows += [" ".join(d(each, 3) for each in pair) for pair in zip(*exact)]
     printed = [Program(RULES).run(river.data).splitlines() for river in rivers]
     same = sum(left == right for left, right in zip(*printed, strict=True))
     without_beta = second[:-2] + bytes(2)
@@ -1099,8 +1122,8 @@ def worked():
             "a river with a dam": river_with_a_dam,
             "the weight's 3": weight_errors,
             "margins of the sample river": sample_margins, "noise from a doubt": noises, "R and β from gaugings": from_gaugings,
-            "what β does to the gain": gains, "where a noise passes C": highest_noise, "the same table in both versions": same_tables,
-            "the same records in both versions": same_records,
+            "what β does to the gain": gains, "several β on the sample river": several_betas, "where a noise passes C": highest_noise,
+            "the same table in both versions": same_tables, "the same records in both versions": same_records,
             "rain, stage and curve": rain_and_curve,
             "the highest rain of a basin": basin_sizes, "the sum of variances": variance_sum,
             "a margin that grows from reading to reading": growing_margin,
