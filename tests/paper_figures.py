@@ -1070,20 +1070,20 @@ def noises_to_try():
     stage, beta, R, beside = 1_500, 100, 1_000, CEILING - 4_000
 
     def table(R, beta=beta, version=2):
-        noises = dict(R=R, beta=beta), dict(R=1_000, beta=0)
-        gauges = [dict(element=number, pieces=[(LAST_TOP, 20_000, -500)]) | noise for number, noise in enumerate(noises, 1)]
+        gauges = [dict(element=number, R=R, pieces=[(LAST_TOP, 20_000, -500)], beta=each) for number, each in ((1, beta), (2, 0))]
         return table_bytes(dict(version=version, T=60, L=1, elements=[dict(kind=REACH, lag=60)] * 2, gauges=gauges))
 
     def refused(table, *stages):
         return Program(RULES).run(table + record_bytes((), stages)).splitlines()[-1].decode().partition("refused ")[2]
 
-    z = RULES.look(decode_table(table(R)).gauges[0], stage).discharge
-    _, t, square, noise = noise_parts(Gauge(1, 1, R, (), beta), z)
+    (_, z, noise, _), (_, _, most_noise, _) = (RULES.rate(table(R, each), 1, stage) for each in (beta, 500))
+    (_, t, square, right), (_, most, _, most_right) = (noise_parts(Gauge(1, 1, R, (), each), z) for each in (beta, 500))
     above = table(beside + 1)
-    assert beside + int(square) == CEILING and not refused(table(beside), stage, GAP) and not refused(table(R, 500), GAP, GAP)
-    assert not refused(above, GAP, GAP) and not refused(table(beside + 1, version=1), stage, GAP)
+    assert (noise, most_noise) == (right, most_right) and beside + int(square) == CEILING and not refused(table(beside), stage, GAP)
+    assert not refused(above, GAP, GAP) and not refused(above, GAP, stage) and not refused(table(beside + 1, version=1), stage, GAP)
     trial = tried_figures.refusal(RULES.trial, above, record_bytes((), (stage, GAP)), RULES.start(above, State()), [0] * 7)
-    return f"""{beta} {n(R)} {n(z)} {n(t)} {n(noise)} 500 501 {refused(table(R, 501), GAP, GAP)}
+    return f"""{n(20_000)} {n(-500)} {n(R)} {beta} {n(stage)} {n(z)} {n(t)} {n(noise)}
+    500 {n(most)} {n(most_noise)} {n(HIGHEST_STAGE)} {refused(table(R, 500), HIGHEST_STAGE, GAP)} 501 {refused(table(R, 501), GAP, GAP)}
     {beta} {n(z)} {n(beside)} {n(CEILING)} {n(beside + 1)} {refused(above, stage, GAP)} {n(-500)} 499 {refused(above, stage, 499)}
     4 {trial}"""
 
