@@ -1,3 +1,4 @@
 pub mod RatingLaws
 pub mod LookLaws
 pub mod NoiseLaws
+pub mod NoiseFigures
