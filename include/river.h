@@ -23,9 +23,9 @@ extern "C" {
 
 /* The version of this header. At its start a host compares it with the library's own, river_version(), and makes no other call where they
  * differ: an object compiled with an old header would hand a new library its memory in another shape. A stored state belongs to the version
- * that moved it, or to a later one that this header names. Version 5 has the layouts of 4, but that river_rating has a noise (M-105), and moves
- * a state as version 4 does: a state that version 4 has moved may be given to it. One that version 3 has moved may not (M-103): start anew
- * and send the records again. */
+ * that moved it, or to a later one that this header names. Version 5 has the layouts of 4, but that river_rating has a noise (M-105), and
+ * moves a state as version 4 does: a state that version 4 has moved may be given to it. One that version 3 has moved may not (M-103): start
+ * anew and send the records again. */
 #define RIVER_VERSION 5
 
 enum { RIVER_MOST_PLACES = 64, RIVER_MOST_LEADS = 12, RIVER_MOST_GAUGES = 16 };
@@ -68,8 +68,8 @@ typedef struct {
 
 /* A river's state, 450 numbers: N, accepted steps, and a place for each element; place[0] is element 1. Before a start it may hold
  * anything. Places beyond the first N and the rains of reaches and dams are neither read nor changed.
- * A state may be stored and given back later with the same table and a RIVER_VERSION that takes it: the run then goes on, also in another process
- * after a power cut. */
+ * A state may be stored and given back later with the same table, to the same RIVER_VERSION or one that takes it: the run then goes on, also
+ * in another process after a power cut. */
 typedef struct {
     uint64_t elements, steps;
     river_place place[RIVER_MOST_PLACES];

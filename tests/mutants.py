@@ -2895,7 +2895,9 @@ def try_fractions():
 WRONG_METHODS = (GainMarginTwo, ReadingsIgnored, CorrectionVarianceKept, RainSumByThree, LastRainOnly, LeadNoiseOnce,
                  VarianceWeightNotSquared, SystemNoiseLeftOut, WeightsExchanged, ShortSeries, SumOfNewOutflows, OldForNew, NewForOldInSteps,
                  NewForOldAtLeads, StateForOldAtLeads, DamNewReleaseAsOld, InflowMarginWithoutOne, MeanVariance, ProductIn32Bits, HalvesToEven,
-                 EveryNanAGap, NegativesThatRoundToZero, ThirteenForEighteen, DisplayMultiplied)
+                 EveryNanAGap, NegativesThatRoundToZero, ThirteenForEighteen, DisplayMultiplied, BetaIgnored, TNotRounded, TRoundedUp,
+                 NoiseRoundedUp, NoiseWithoutR, NoiseOfUnroundedZ, RInGain, RInGainMargin, RInVariance, RInVarianceMargin, BetaOfNextGauge,
+                 NoiseAboveCeilingTaken)
 
 
 def changed_figures(text):

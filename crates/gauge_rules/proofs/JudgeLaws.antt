@@ -3,6 +3,7 @@ use Prim.Native.Nat.{ℕ, _-_, _≤_, _<_}
 use mathlib.Core.Bool.{Bool, true, false}
 use mathlib.Core.Logic.{_≢_}
 use mathlib.Core.Path.{_≡_}
+use lib.Dec.{leb}
 use borrow.Author.Tests.{lt-ltb, le-ltb, lt-leb, le-leb, eq-eqb, ne-eqb}
 use Rattle.units.specs.Units.{C}
 use Rattle.fields.specs.Ranges.{inRange}
@@ -34,11 +35,11 @@ module _
         unfolding gaugeFits notOnDam
         noise-broken r = rw (← a, ← e, lt-ltb _ _ after, le-leb _ _ there, ← k, ne-eqb _ _ free, r)
 
-        module _ (noise : inRange (gauge g .noise .0) 1 C ≡ true) {beta : ℕ} (b : beta ≡ gauge g .beta) where
-          pub beta-broken : 500 < beta → false ≡ gaugeFits n element gauge g
-          unfolding gaugeFits notOnDam betaFits
-          beta-broken m = rw (← a, ← e, lt-ltb _ _ after, le-leb _ _ there, ← k, ne-eqb _ _ free, noise, ← b, lt-leb _ _ m)
+        module _ (noise : inRange (gauge g .noise .0) 1 C ≡ true) where
+          pub curve-broken : curveFits (gauge g .curve) ≡ false → false ≡ gaugeFits n element gauge g
+          unfolding gaugeFits notOnDam
+          curve-broken c = rw (← a, ← e, lt-ltb _ _ after, le-leb _ _ there, ← k, ne-eqb _ _ free, noise, c)
 
-          pub curve-left : beta ≤ 500 → {fit : Bool} → fit ≡ curveFits (gauge g .curve) → fit ≡ gaugeFits n element gauge g
+          pub beta-left : curveFits (gauge g .curve) ≡ true → {beta : ℕ} → beta ≡ gauge g .beta → leb beta 500 ≡ gaugeFits n element gauge g
           unfolding gaugeFits notOnDam betaFits
-          curve-left l f = rw (← a, ← e, lt-ltb _ _ after, le-leb _ _ there, ← k, ne-eqb _ _ free, noise, ← b, le-leb _ _ l) f
+          beta-left c b = rw (← a, ← e, lt-ltb _ _ after, le-leb _ _ there, ← k, ne-eqb _ _ free, noise, c, ← b)

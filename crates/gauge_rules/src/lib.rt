@@ -39,10 +39,10 @@ fn gauge_fits(table: &[u8], n: usize, g: usize, above: usize) -> bool
     if !in_range(whole32(table, at + 2), 1, Variance::CEILING) {
         return false;
     }
-    if 500 < beta_at(table, at) {
+    if !curve_fits(table, at) {
         return false;
     }
-    curve_fits(table, at)
+    beta_at(table, at) <= 500
 }
 
 // Whether the first m gauges of a table with n elements keep rule 7.

@@ -159,7 +159,7 @@ gauge-rises n element gauge g h =
     let next = gauge (g + 1) in
     let later = ltb (elementBefore gauge (g + 1)) (next .element) in
     let noise = inRange (next .noise .0) 1 C in
-    let k = all-six later (leb (next .element) n) (notOnDam element next) noise (betaFits next) (curveFits (next .curve)) h in
+    let k = all-six later (leb (next .element) n) (notOnDam element next) noise (curveFits (next .curve)) (betaFits next) h in
     let e : elementBefore gauge (g + 1) ≡ gauge g .element = rw add-one in
     omega (arith, ltb-true (elementBefore gauge (g + 1)) (next .element) (k .0))
 
@@ -170,13 +170,13 @@ gauge-bounds n element gauge g h =
     let e = gauge g .element in
     let later = ltb (elementBefore gauge g) e in
     let noise = inRange (gauge g .noise .0) 1 C in
-    let k = all-six later (leb e n) (notOnDam element (gauge g)) noise (betaFits (gauge g)) (curveFits (gauge g .curve)) h in
+    let k = all-six later (leb e n) (notOnDam element (gauge g)) noise (curveFits (gauge g .curve)) (betaFits (gauge g)) h in
     let range = range-bounds (gauge g .noise .0) 1 C (k .1 .1 .1 .0) in
     record {
       elementLeast = omega (arith, ltb-true (elementBefore gauge g) e (k .0));
       elementMost = leb-true _ _ (k .1 .0);
-      noise = record { noiseLeast = range .0; noiseMost = range .1; betaMost = leb-true _ _ (k .1 .1 .1 .1 .0) };
-      curve = curve-bounds _ (k .1 .1 .1 .1 .1);
+      noise = record { noiseLeast = range .0; noiseMost = range .1; betaMost = leb-true _ _ (k .1 .1 .1 .1 .1) };
+      curve = curve-bounds _ (k .1 .1 .1 .1 .0);
     }
 
 -- document 02, M-101: "For every accepted gauge and stage to 30,000 mm .. the number of the piece that 01 takes"
@@ -234,5 +234,5 @@ gauge-same n m one other gauge gauge′ h k g l =
     let e = x .element in
     let later = ltb (elementBefore gauge′ g) e in
     rw (before-same m gauge gauge′ k g l, k g l)
-    (ap (λ free. ((free && inRange (x .noise .0) 1 C) && betaFits x) && curveFits (x .curve))
+    (ap (λ free. ((free && inRange (x .noise .0) 1 C) && curveFits (x .curve)) && betaFits x)
     (joined-same later (leb e n) (λ a b. rw (h (e - 1) (omega (arith, ltb-true (elementBefore gauge′ g) e a, leb-true e n b))))))

@@ -68,5 +68,5 @@ unfoldable pub gaugeFits : ℕ → (ℕ → Element) → (ℕ → Gauge) → ℕ
 gaugeFits n element gauge g =
     ((((ltb (elementBefore gauge g) (gauge g .element) && leb (gauge g .element) n) && notOnDam element (gauge g))
     && inRange (gauge g .noise .0) 1 C)
-    && betaFits (gauge g))
-    && curveFits (gauge g .curve)
+    && curveFits (gauge g .curve))
+    && betaFits (gauge g)

@@ -1,5 +1,5 @@
 -- `gauge_fits` meets its contract.
-use mathlib.Core.Path.{_≡_, ap, _∙_}
+use mathlib.Core.Path.{_≡_}
 use borrow.Author.Needs.{needs}
 use native.Mathlib.Omega.{arith}
 use Rattle.units.specs.Units.{C}
@@ -10,7 +10,7 @@ use Rattle.gauges.specs.Gauges.{gaugeFrom, gaugeAt}
 use Rattle.gauges.specs.Places.{GaugeThere}
 use Rattle.gauges.specs.Rules.{curveFits}
 use Rattle.gauges.proofs.GaugeLaws.{elements-before, gauge-there}
-use Rattle.gauge_rules.proofs.JudgeLaws.{not-after, too-late, on-dam, noise-broken, beta-broken, curve-left}
+use Rattle.gauge_rules.proofs.JudgeLaws.{not-after, too-late, on-dam, noise-broken, curve-broken, beta-left}
 use Rattle.gauge_rules.proofs.gauge_fits.Statement.{statement}
 use Rattle.gauge_rules.proofs.gauge_fits.Tie as tie
 
@@ -76,14 +76,10 @@ whole32-requires c κs = omega (arith, there (placed (free c)) .whole)
 in-range-requires : tie.Need-in-range-requires
 in-range-requires c κs = search needs
 
--- R and β are the gauge's
+-- R is the gauge's
 noise : (c : tie.After-in-range) → c .in-range .result ≡ inRange (gauge (free (c .before .before)) .noise .0) 1 C
 unfolding gaugeAt gaugeFrom
 noise c = rw (← placed (free (c .before .before)) .place-of .ensures, ← c .before .whole32 .ensures .0) (c .in-range .ensures)
-
-beta : (c : tie.After-beta-at) → c .beta-at .result ≡ gauge (free (c .before .before .before .before)) .beta
-unfolding gaugeAt gaugeFrom
-beta c = rw (← placed (free (c .before .before .before .before)) .place-of .ensures) (c .beta-at .ensures)
 
 returns-4 : tie.Need-returns-4
 returns-4 c =
@@ -93,33 +89,40 @@ returns-4 c =
     noise-broken _ _ _ _ (start w .pre .before) (number w) (m .before .if1 .left) (m .if2 .left) (k .before .kind-at .ensures) (k .if3 .left)
     (broken (noise (c .before)) (c .if4 .taken))
 
-beta-at-requires : tie.Need-beta-at-requires
-beta-at-requires c κs = there (placed (free (c .before .before .before)))
+curve-fits-requires : tie.Need-curve-fits-requires
+curve-fits-requires c κs = there (placed (free (c .before .before .before)))
+
+-- so are its curve and β
+curve : (c : tie.After-curve-fits) → c .curve-fits .result ≡ curveFits (gauge (free (c .before .before .before .before)) .curve)
+unfolding gaugeAt gaugeFrom
+curve c = rw (← placed (free (c .before .before .before .before)) .place-of .ensures) (c .curve-fits .ensures)
 
 returns-5 : tie.Need-returns-5
 returns-5 c =
-    let b = c .before in
-    let r = b .before .before in
+    let v = c .before in
+    let r = v .before .before in
     let k = r .before .before in
     let m = k .before .before in
     let w = free k in
-    beta-broken _ _ _ _ (start w .pre .before) (number w) (m .before .if1 .left) (m .if2 .left) (k .before .kind-at .ensures) (k .if3 .left)
-    (kept (noise r) (b .before .if4 .left)) (beta b) (c .if5 .taken)
+    curve-broken _ _ _ _ (start w .pre .before) (number w) (m .before .if1 .left) (m .if2 .left) (k .before .kind-at .ensures) (k .if3 .left)
+    (kept (noise r) (v .before .if4 .left)) (broken (curve v) (c .if5 .taken))
 
-curve-fits-requires : tie.Need-curve-fits-requires
-curve-fits-requires c κs = there (placed (free (c .before .before .before .before .before)))
+beta-at-requires : tie.Need-beta-at-requires
+beta-at-requires c κs = there (placed (free (c .before .before .before .before .before)))
+
+beta : (c : tie.After-beta-at) → c .beta-at .result ≡ gauge (free (c .before .before .before .before .before .before)) .beta
+unfolding gaugeAt gaugeFrom
+beta c = rw (← placed (free (c .before .before .before .before .before .before)) .place-of .ensures) (c .beta-at .ensures)
 
 returns-6 : tie.Need-returns-6
-unfolding gaugeAt gaugeFrom
 returns-6 c =
-    let b = c .before .before in
-    let r = b .before .before in
+    let v = c .before .before in
+    let r = v .before .before in
     let k = r .before .before in
     let m = k .before .before in
     let w = free k in
-    curve-left _ _ _ _ (start w .pre .before) (number w) (m .before .if1 .left) (m .if2 .left) (k .before .kind-at .ensures) (k .if3 .left)
-    (kept (noise r) (b .before .if4 .left)) (beta b) (c .before .if5 .left)
-    (rw (← placed w .place-of .ensures) (c .curve-fits .ensures))
+    beta-left _ _ _ _ (start w .pre .before) (number w) (m .before .if1 .left) (m .if2 .left) (k .before .kind-at .ensures) (k .if3 .left)
+    (kept (noise r) (v .before .if4 .left)) (kept (curve v) (c .before .if5 .left)) (beta c)
 
 pub gauge-fits-spec : {M : Type 1} → statement M
 gauge-fits-spec =
@@ -137,7 +140,7 @@ gauge-fits-spec =
     whole32-requires
     in-range-requires
     returns-4
-    beta-at-requires
-    returns-5
     curve-fits-requires
+    returns-5
+    beta-at-requires
     returns-6)
