@@ -1,5 +1,5 @@
--- Document 01, One step, and document 02, M-100 and M-103: what one element takes in, how it moves, how a reading corrects it, what a dam
--- lets out.
+-- Document 01, One step, and document 02, M-100, M-103 and M-105: what one element takes in, how it moves, how a reading corrects it, what a
+-- dam lets out.
 use Prim.Native.Nat.{ℕ}
 use mathlib.Core.List.{List, [], _∷_, _++_}
 use Rattle.weighting.specs.Estimates.{estimate}

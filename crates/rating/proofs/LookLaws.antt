@@ -10,7 +10,6 @@ use native.Mathlib.Omega.{arith}
 use lib.Dec.{ltb}
 use lib.Seq.{getD-take}
 use lib.ListN.{getD}
-use Rattle.refusal.specs.Answers.{accepted}
 use Rattle.rating.specs.declared.Piece.{Piece}
 use Rattle.rating.specs.declared.Curve.{Curve}
 use Rattle.rating.specs.Rating.{piecesOf, pieceFor, onPiece, rated, noPiece, CurveFits}

@@ -1,5 +1,5 @@
 -- `beta_at` meets its contract.
-use mathlib.Core.Path.{_≡_, sym, _∙_}
+use mathlib.Core.Path.{sym, _∙_}
 use borrow.Author.Tests.{ne-eqb}
 use native.Mathlib.Omega.{arith}
 use Rattle.gauges.specs.Gauges.{tableVersion, betaAt}

@@ -1,7 +1,6 @@
 -- `look_along` meets its contract: the stage has reached the tops of the pieces that were read before.
 use Prim.Native.Nat.{_+_, _*_, _-_, _<_}
 use mathlib.Core.Path.{_≡_, sym, ap, _∙_}
-use borrow.Author.Needs.{needs}
 use native.Mathlib.Omega.{arith}
 use lib.ListN.{getD}
 use Rattle.units.specs.Answers.{dischargeAnswer}
