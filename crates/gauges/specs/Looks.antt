@@ -11,6 +11,6 @@ use Rattle.gauges.specs.declared.Gauge.{Gauge}
 unfoldable pub lookBy : Gauge → Answer Discharge → ℕ → Look
 lookBy gauge z pieces = record { answer = withNoise (gauge .noise) (gauge .beta) z; pieces = pieces }
 
--- of a stage
+-- of a stage: z by the piece that 01 takes, and the number of that piece
 unfoldable pub lookOn : Gauge → ℕ → Look
 lookOn gauge h = let pieces = piecesOf (gauge .curve) in lookBy gauge (rated h pieces) (pieceNumber h pieces)

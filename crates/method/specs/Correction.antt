@@ -1,4 +1,5 @@
--- Document 01, Reading: the correction of an element by the discharge z that its gauge gives.
+-- Document 01, Reading: the correction of an element by the discharge z that its gauge gives. R is the noise of the reading, which by M-105
+-- (document 02) is more than the gauge's R where β is above 0.
 use Prim.Native.Nat.{ℕ, _+_, _-_, _*_, _/_, min}
 use mathlib.Core.List.{List, [], _∷_}
 use Rattle.refusal.specs.Answers.{Answer}
