@@ -37,7 +37,7 @@ pub struct Intake {
     pub observation: Observation,
 }
 
-// A reading corrects the element's figures; nothing observed leaves them.
+// A reading corrects the element's figures, where its noise does not pass the ceiling; nothing observed leaves them.
 fn correct_by(observation: Observation, x: Figures) -> FiguresAnswer
     requires { ⌜ ObservationFits observation × FiguresFit x ⌝ }
     ensures { λ r. ⌜ (figuresAnswer r ≡ correctedAnswer observation x) × AnsweredFiguresFit r ⌝ }
