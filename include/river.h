@@ -37,7 +37,7 @@ enum {
     RIVER_REFUSED_TABLE_LENGTH = 1,     /* the table has under 10 bytes, or its length field is not the count of bytes after it */
     RIVER_REFUSED_TABLE_VERSION = 2,    /* the table's version is neither 1 nor 2 */
     RIVER_REFUSED_TABLE_COUNTS = 3,     /* T, L, N or M is out of range */
-    RIVER_REFUSED_TABLE_SIZE = 4,       /* the table's length field does not fit N and M */
+    RIVER_REFUSED_TABLE_SIZE = 4,       /* the table's length field does not fit its version, N and M */
     RIVER_REFUSED_ELEMENT_FIELD = 5,    /* an element's kind or any field but down is out of range */
     RIVER_REFUSED_ELEMENT_DOWN = 6,     /* a down is neither 0 nor a later element, or it names a basin */
     RIVER_REFUSED_GAUGE_FIELD = 7,      /* a gauge field is out of range or out of order, or the gauge stands on a dam */

@@ -305,9 +305,15 @@ def value_products(blend):
     return f"{n(blend.weight)} × {n(blend.x)} + {n(SCALE - blend.weight)} × {n(blend.y)} = {n(blend.products)} gives {n(blend.value)}"
 
 
-def margin_products(blend):
+def margin_parts(blend):
+    """The two quotients of a blend's margin, which with 3 make it."""
     of_margins, of_weight = blend.of_margins // SCALE, blend.of_weight // SCALE
     assert of_margins + of_weight + 3 == blend.margin
+    return of_margins, of_weight
+
+
+def margin_products(blend):
+    of_margins, of_weight = margin_parts(blend)
     return (f"{n(blend.weight)} × {n(blend.x_margin)} + {n(SCALE - blend.weight)} × {n(blend.y_margin)} = {n(blend.of_margins)} gives "
             f"{n(of_margins)}; {n(blend.weight_margin)} × ({n(blend.gap)} + {n(blend.x_margin)} + {n(blend.y_margin)}) = "
             f"{n(blend.of_weight)} gives {n(of_weight)}; plus 3: {n(blend.margin)}")
@@ -315,8 +321,7 @@ def margin_products(blend):
 
 def margin_quotients(blend):
     """A blend's margin as the sum of its two quotients and 3."""
-    of_margins, of_weight = blend.of_margins // SCALE, blend.of_weight // SCALE
-    assert of_margins + of_weight + 3 == blend.margin
+    of_margins, of_weight = margin_parts(blend)
     return (f"[({n(blend.weight)} × {n(blend.x_margin)} + {n(SCALE - blend.weight)} × {n(blend.y_margin)}) / S] + "
             f"[{n(blend.weight_margin)} × ({n(blend.gap)} + {n(blend.x_margin)} + {n(blend.y_margin)}) / S] + 3 = "
             f"{n(of_margins)} + {n(of_weight)} + 3 = {n(blend.margin)}")

@@ -46,9 +46,9 @@ piece-stands table at (suc (suc (suc (suc zero)))) l = ap (pieceAt table) (omega
 piece-stands table at (suc (suc (suc (suc (suc j))))) l = absurd (omega arith)
 
 -- a gauge, where it stands
-pub gauge-stands : (table : List ℕ) (n g : ℕ) → gaugeFrom table (gaugePlace table n g) ≡ gaugeAt table n g
+pub gauge-stands : (table : List ℕ) (n g : ℕ) {at : ℕ} → at ≡ gaugePlace table n g → gaugeFrom table at ≡ gaugeAt table n g
 unfolding gaugeAt
-gauge-stands table n g = refl
+gauge-stands table n g e = ap (gaugeFrom table) e
 
 pub curve-stands : (table : List ℕ) (at : ℕ) → curveAt table at ≡ gaugeFrom table at .curve
 unfolding gaugeFrom

@@ -37,9 +37,7 @@ here :
     (p : tie.After-place-of)
     → let s = p .before .before .before .before in
     gaugeFrom (s .args .table .now) (p .place-of .result) ≡ gaugeAt (s .args .table .now) (s .args .n) (s .args .k - 1)
-here p =
-    let s = p .before .before .before .before in
-    ap (gaugeFrom (s .args .table .now)) (p .place-of .ensures) ∙ gauge-stands _ _ _
+here p = gauge-stands _ _ _ (p .place-of .ensures)
 
 look-along-requires : tie.Need-look-along-requires
 look-along-requires c κs =
