@@ -1,2 +1,3 @@
 pub mod FiguresLaws
 pub mod InflowLaws
+pub mod OrderLaws

@@ -1,2 +1,3 @@
 pub mod WeightLaws
 pub mod BlendLaws
+pub mod OrderLaws
