@@ -1,0 +1,4 @@
+pub mod WalkLaws
+pub mod StateLaws
+pub mod HandedLaws
+pub mod Theorem

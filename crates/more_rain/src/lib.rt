@@ -1,0 +1,1 @@
+// Two storms, the second with at least the rain of the first: definitions and the theorem.
