@@ -7,7 +7,8 @@
             paper_figures.py works out
   inputs    each block of hex there, given to the calculator and to the built program, prints the block of text after it
   files     one of these blocks is examples/three-elements/river.hex, and what it prints expected.txt there; floats.hex there prints the
-            same, but for the number of the refusal; proportional-noise.hex prints its own expected output, with β 0 that of river.hex
+            same, but for the number of the refusal; proportional-noise.hex prints its own expected output, with β 0 that of river.hex;
+            so do both files of examples/two-storms/, which the page's own command compares
   lines     each printed line that these pages, README.md and examples/c/README.md show stands in an expected output
 
 --show prints the numbers of one example as the calculator has them, to write the page by. The program is target/bin/cabinet unless
@@ -17,6 +18,7 @@ import argparse
 import re
 import subprocess
 import sys
+import tempfile
 from pathlib import Path
 
 from calculator.program import cut_table, run
@@ -98,8 +100,9 @@ def inputs(page, program):
 
 
 def files(page, program):
-    """The example river in the page and in its own files, and what it prints where its stages are floats and where its gauge has a β."""
-    complaints, folder = [], ROOT / "examples/three-elements"
+    """The example river in the page and in its own files; what it prints where its stages are floats and where its gauge has a β; what two
+    storms print."""
+    complaints, folder, storms = [], ROOT / "examples/three-elements", ROOT / "examples/two-storms"
     for kind, name in (("hex", "river.hex"), ("text", "expected.txt")):
         if (kind, (folder / name).read_text()) not in BLOCK.findall(page):
             complaints.append(f"METHOD.md does not have examples/three-elements/{name} as it stands")
@@ -107,11 +110,33 @@ def files(page, program):
     floats, noise = (bytes_of_hex((folder / name).read_text()) for name in ("floats.hex", "proportional-noise.hex"))
     size = len(cut_table(noise))
     without_beta = noise[:size - 2] + bytes(2) + noise[size:]
-    for words, data, right in (("floats.hex", floats, expected.replace("refused 13", "refused 18")),
-                               ("proportional-noise.hex", noise, with_beta), ("proportional-noise.hex with β 0", without_beta, expected)):
+    less, more = ((f"two-storms/{name}.hex", bytes_of_hex((storms / f"{name}.hex").read_text()),
+                   (storms / f"{name}-expected.txt").read_text()) for name in ("less-rain", "more-rain"))
+    for words, data, right in (("three-elements/floats.hex", floats, expected.replace("refused 13", "refused 18")),
+                               ("three-elements/proportional-noise.hex", noise, with_beta),
+                               ("three-elements/proportional-noise.hex with β 0", without_beta, expected), less, more):
         for name, printed in (("calculator", run(data)), ("program", program_output(program, data))):
             if printed.decode() != right:
-                complaints.append(f"for examples/three-elements/{words} the {name} prints something else than stands there")
+                complaints.append(f"for examples/{words} the {name} prints something else than stands there")
+    return complaints + comparison(page, less[2], more[2])
+
+
+def comparison(page, less, more):
+    """The page's command that compares two storms prints nothing for these outputs; with the two exchanged, each line with another
+    discharge; with one variance changed, its line."""
+    command, = re.findall(r"^    (paste .*)$", page, re.MULTILINE)
+    other = sum(here.split()[3] != there.split()[3] for here, there in zip(less.splitlines(), more.splitlines(), strict=True))
+    *figures, variance, margin = more.partition("\n")[0].split(" ")
+    changed = " ".join([*figures, str(int(variance) + 1), margin]) + more[more.index("\n"):]
+    complaints = []
+    for words, first, second, right in (("as they are", less, more, 0), ("exchanged", more, less, other),
+                                        ("with one variance changed", less, changed, 1)):
+        with tempfile.TemporaryDirectory() as folder:
+            (Path(folder) / "less.txt").write_text(first)
+            (Path(folder) / "more.txt").write_text(second)
+            printed = subprocess.run(["bash", "-c", command], cwd=folder, stdout=subprocess.PIPE, timeout=60).stdout.splitlines()
+        if len(printed) != right:
+            complaints.append(f"METHOD.md's comparison of two storms, {words}, prints {len(printed)} lines in place of {right}")
     return complaints
 
 

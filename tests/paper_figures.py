@@ -161,7 +161,7 @@ def added(figures, name):
 
 
 class ExampleRiver:
-    """A river of examples/, whose third record is refused."""
+    """A river of examples/; where it has a third record, that one is refused."""
 
     def __init__(self, folder, name="river.hex"):
         self.data = bytes_of_hex((ROOT / "examples" / folder / name).read_text())
@@ -172,7 +172,7 @@ class ExampleRiver:
     def after_steps(self, rules, count):
         """The state after so many accepted steps, and the run in fractions after the same."""
         state, exact = RULES.start(self.table, State()), FractionsRun(self.table)
-        for record in [self.records[0], self.records[1], self.records[3]][:count]:
+        for record in (self.records[:2] + self.records[3:])[:count]:
             state = rules.step(self.table, record, state)
             exact.step(record)
         return state, exact
@@ -247,6 +247,7 @@ class ExampleRiver:
 
 THREE_ELEMENTS, ONE_DAM, FLOATS = ExampleRiver("three-elements"), ExampleRiver("one-dam"), ExampleRiver("three-elements", "floats.hex")
 PROPORTIONAL = ExampleRiver("three-elements", "proportional-noise.hex")
+LESS_RAIN, MORE_RAIN = ExampleRiver("two-storms", "less-rain.hex"), ExampleRiver("two-storms", "more-rain.hex")
 RIVER, TABLE, RECORDS, ELEMENTS = THREE_ELEMENTS.data, THREE_ELEMENTS.table, THREE_ELEMENTS.records, THREE_ELEMENTS.elements
 LENT = [0] * 48
 LOOK_PIECES = (1_000, 20_000, -500), (2_500, 15_000, -300), (LAST_TOP, 12_000, 200)
@@ -682,6 +683,87 @@ def river_with_a_dam():
     {n(dam_1.discharge)}"""
 
 
+def hex_fields(record, *ends):
+    """A record's bytes as the page writes them, cut at these places."""
+    return [record[start:end].hex().upper() for start, end in zip((0, *ends), (*ends, len(record)))]
+
+
+def compared(less, more):
+    """The printed numbers of two storms, line by line, which are as M-106 promises."""
+    outputs = (Program(RULES).run(data).splitlines() for data in (less, more))
+    pairs = [[list(map(int, line.split())) for line in pair] for pair in zip(*outputs, strict=True)]
+    for (*place, discharge, _, variance, _), (*same, larger, _, equal, _) in pairs:
+        assert place == same and discharge <= larger and variance == equal, (place, same)
+    return pairs
+
+
+def storm_records():
+    """The records of both storms, and what they say: the rains of each basin in both, the release and the stage."""
+    table = decode_table(ONE_DAM.table)
+    rows = [" ".join(map(str, table.numbers_of(BASIN)))]
+    assert LESS_RAIN.table == MORE_RAIN.table == ONE_DAM.table
+    for number, pair in enumerate(zip(LESS_RAIN.records, MORE_RAIN.records, strict=True), 1):
+        (less, releases, sent), (more, same, sent_as) = (record_fields(table, record) for record in pair)
+        (stage,), (as_float,) = RULES.stages(pair[0][2], sent), RULES.stages(pair[1][2], sent_as)
+        assert releases == same and stage == as_float and all(map(int.__le__, less, more))
+        rains = [f"{first} {second}" for first, second in zip(less, more)]
+        whole = [" ".join(hex_fields(record, 2, 3, 5, 7, 11)) for record in pair]
+        rows.append(f"{number} {' '.join(whole)} {' '.join(rains)} {n(releases[0])} {n(stage)}")
+    return " ".join(rows)
+
+
+def last_of_storm(storm):
+    """Element 4 in a storm's second step, cell by cell, and its discharge after it."""
+    rules = Noted()
+    state, _ = storm.after_steps(rules, 2)
+    move, blend, noise = rules.moves[-1], rules.blends[-1], decode_table(storm.table).gauges[0].noise
+    (old, new), before, total = move.above, move.figures, move.figures.variance + noise
+    gain = SCALE * before.variance // total
+    assert blend.weight == SCALE - gain and blend.x == before.discharge
+    sums = [n(sum(each.discharge for each in outflows)) for outflows in (old, new)]
+    return [added(old, "discharge"), added(new, "discharge"), f"[({sums[0]} + {sums[1]}) / 2] = {n(move.inflow.discharge)}",
+            move.blends[0].written(), f"{before.variance} {before.variance_margin}",
+            f"[{n(SCALE)} × {before.variance} / {n(total)}] = {n(gain)}",
+            f"[{n(SCALE)} × {before.variance_margin} / {n(total)}] + 2 = {n(blend.weight_margin)}",
+            blend.written(), margin_quotients(blend), state.figures[3].discharge]
+
+
+def two_storms():
+    """Two storms on the river with a dam, line by line and at one element by hand; and the first with a higher reading."""
+    pairs = compared(LESS_RAIN.data, MORE_RAIN.data)
+    rows = [f"{' '.join(map(str, less[:3]))} {n(less[3])} {n(less[4])} {n(more[3])} {n(more[4])} {n(more[3] - less[3])} {n(less[5])}"
+            for less, more in pairs if less[3] < more[3]]
+    same = [less[:2] for less, more in pairs if less == more]
+    assert len(rows) + len(same) == len(pairs) and all(number == 2 or step == 1 and number > 2 for step, number in same)
+    (*less_rain, _), (*more_rain, more) = last_of_storm(LESS_RAIN), last_of_storm(MORE_RAIN)
+    table, higher = decode_table(ONE_DAM.table), 2_000
+    (_, z, noise, _), (_, higher_z, _, _) = (RULES.look(table.gauges[0], stage) for stage in (1_500, higher))
+    rains, releases, _ = record_fields(table, LESS_RAIN.records[1])
+    state = RULES.step(ONE_DAM.table, record_bytes(rains, (higher,), releases), LESS_RAIN.after_steps(RULES, 1)[0])
+    assert state.figures[3].discharge > more
+    return f"""{storm_records()} {" ".join(rows)} {len(same)} {len(pairs)} 3 4 1
+    4 2 {n(z)} {n(noise)} {" ".join(" ".join(pair) for pair in zip(less_rain, more_rain))}
+    2 {n(higher)} {n(higher_z)} 4 {n(state.figures[3].discharge)} {n(more)}"""
+
+
+def a_tenth_more_rain():
+    """The sample river with every rain a tenth more, with its readings and with gaps in their place: the peak of its outlet."""
+    data, rows, larger = SAMPLE.read_bytes(), [], set()
+    table, number = cut_table(data), len(decode_table(cut_table(data)).elements)
+    fields = [record_fields(decode_table(table), record) for record in cut_records(data, len(table))]
+    for with_readings in (True, False):
+        storms = []
+        for tenths in (10, 11):
+            records = [record_bytes([-(-tenths * rain // 10) for rain in rains], stages if with_readings else [GAP] * len(stages))
+                       for rains, _, stages in fields]
+            storms.append(table + b"".join(records))
+        pairs = compared(*storms)
+        larger.add(sum(less[3] < more[3] for less, more in pairs))
+        less, more = (max(pair[which][3] for pair in pairs if pair[which][1:3] == [number, 0]) for which in (0, 1))
+        rows.append(f"{thousandths(less)} {thousandths(more)} {100 * (more - less) / less:.1f}")
+    return f"2001 0 {' '.join(rows)} {' '.join(map(n, larger))} {n(len(pairs))}"
+
+
 def weight_errors():
     """What bounds the error of h after each round: below 1, and the error before it divided by m."""
     error, found = Fraction(0), []
@@ -867,18 +949,13 @@ def same_tables():
 
 def same_records():
     """The first records of the two files field by field, the others whole, and that both print the same but for one refusal."""
-    def fields(record):
-        """A record's bytes as the page writes them: length, version, two rains, a stage."""
-        ends = 0, 2, 3, 5, 7, len(record)
-        return [record[start:end].hex().upper() for start, end in zip(ends, ends[1:])]
-
     table, rivers = decode_table(TABLE), (THREE_ELEMENTS, FLOATS)
     printed = [run(river.data).decode().splitlines() for river in rivers]
     assert FLOATS.table == TABLE and [record[2] for record in FLOATS.records] == [2, 2, 2, 1]
     (version_1, version_2), = [pair for pair in zip(*printed, strict=True) if pair[0] != pair[1]]
     after, same = (river.after_steps(RULES, 1)[0].figures[2] for river in rivers)
     assert after == same
-    one, two, three, four = [[fields(record) for record in pair] for pair in zip(*(river.records for river in rivers))]
+    one, two, three, four = [[hex_fields(record, 2, 3, 5, 7) for record in pair] for pair in zip(*(river.records for river in rivers))]
     first, bits = [int(field, 16) for field in one[0]], int(one[1][4], 16)
     lengths = [f"1 + 2 × {table.basins} + {size} × {len(table.gauges)} = {int(each[0], 16)}" for size, each in zip((2, 4), one)]
     assert all(1 + 2 * table.basins + size * len(table.gauges) == int(each[0], 16) for size, each in zip((2, 4), one))
@@ -1067,7 +1144,7 @@ def figures_to_try():
     {n(CEILING)} {n(CEILING + 1)} {refused_with(release=CEILING + 1)} {n(30_001)}
     {refused_with(release=CEILING + 1, stage=30_001)}
     {noises_to_try()} {tables_to_try()}
-    36 60 60 {n(1_000)} {n(1_000)} 100"""
+    36 60 60 {n(1_000)} {n(1_000)} 100 {more_rain_to_try()}"""
 
 
 def noises_to_try():
@@ -1091,6 +1168,14 @@ def noises_to_try():
     500 {n(most)} {n(most_noise)} {n(HIGHEST_STAGE)} {refused(table(R, 500), HIGHEST_STAGE, GAP)} 501 {refused(table(R, 501), GAP, GAP)}
     {beta} {n(z)} {n(beside)} {n(CEILING)} {n(beside + 1)} {refused(above, stage, GAP)} {n(-500)} 499 {refused(above, stage, 499)}
     4 {trial}"""
+
+
+def more_rain_to_try():
+    """The page's one basin with the rain 200 beside the rain 100: both discharges, and the variances of both."""
+    table = table_bytes(dict(T=60, L=1, elements=[dict(kind=BASIN, lag=60, area=3_600, f=1_000, G=1_000)], gauges=[]))
+    pairs = compared(*(table + record_bytes((rain,), ()) for rain in (100, 200)))
+    assert all(less[3] < more[3] for less, more in pairs)
+    return f"200 100 {' '.join(n(more[3]) for _, more in pairs)} {' '.join(n(more[5]) for _, more in pairs)}"
 
 
 def tables_to_try():
@@ -1124,7 +1209,7 @@ def worked():
             "from bits to millimetres": from_bits, "every pattern that a gauge can send": every_pattern, "one look along a curve": one_look,
             "the noise of a reading": noises_of_readings, "one reading": one_reading, "one reading at high water": high_water,
             "one step of a river": one_step, "one lead": one_lead, "the mean of the last rains": later_rains, "a trial": a_trial,
-            "a river with a dam": river_with_a_dam,
+            "a river with a dam": river_with_a_dam, "two storms": two_storms, "a tenth more rain on the sample river": a_tenth_more_rain,
             "the weight's 3": weight_errors,
             "margins of the sample river": sample_margins, "noise from a doubt": noises, "R and β from gaugings": from_gaugings,
             "what β does to the gain": gains, "several β on the sample river": several_betas, "where a noise passes C": highest_noise,
