@@ -8,7 +8,7 @@
   inputs    each block of hex there, given to the calculator and to the built program, prints the block of text after it
   files     one of these blocks is examples/three-elements/river.hex, and what it prints expected.txt there; floats.hex there prints the
             same, but for the number of the refusal; proportional-noise.hex prints its own expected output, with β 0 that of river.hex;
-            so do both files of examples/two-storms/, which the page's own command compares
+            each file of examples/two-storms/ prints its own too, and the page's command compares the two
   lines     each printed line that these pages, README.md and examples/c/README.md show stands in an expected output
 
 --show prints the numbers of one example as the calculator has them, to write the page by. The program is target/bin/cabinet unless
