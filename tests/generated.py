@@ -1,7 +1,8 @@
 #!/usr/bin/env python3
 """Tries the built program on generated inputs and judges every output by judge.py; where an input has a twin, the same readings in records
 of version 1 or the same numbers in a table of version 1, the program must print the same for both, whatever the calculator says. So with
-the floats around every half millimetre, too many to be worked out here: the calculator gives their millimetres alone.
+the floats around every half millimetre, too many to be worked out here: the calculator gives their millimetres alone. Where an input has a
+wetter one, a second storm with more rain, no discharge may be less there and the variances must be equal.
 
     python3 tests/generated.py [--long] [--seed S] [--only K] [program]
 
@@ -18,11 +19,13 @@ from pathlib import Path
 
 from calculator import program, tried_figures
 from inputs import every_half_millimetre, inputs, random_for
-from judge import judge, judged, version_complaint
+from judge import compared_storms, judge, judged, rain_complaint, version_complaint
 
 ROOT = Path(__file__).resolve().parent.parent
 TIME_LIMIT = 120  # seconds for one input
 MOST_SHOWN = 20  # failing inputs that are written out
+# Fewer than these compared is a failure.
+LEAST_STORMS = {"accepted whole": 180, "lines": 7_000, "larger discharges": 4_000, "forecasts on one side": 1}
 
 
 class Crashed(Exception):
@@ -85,6 +88,9 @@ def main():
             found = judge(data, output, expected, given.fractions)
             if given.twin:
                 found |= version_complaint(output, under_test(given.twin(random_for(options.seed, number))))
+            if given.wetter:
+                wetter = given.wetter(random_for(options.seed, number))
+                found |= rain_complaint(data, output, wetter, under_test(wetter), given.larger)
         except Crashed as crash:
             output, found = b"", {"crash": str(crash)}
         if found:
@@ -102,7 +108,9 @@ def main():
     if options.only is None:
         complaint = version_complaint(*map(under_test, every_half_millimetre()))
         print(f"every half millimetre: {complaint.get('versions', 'as in version 1')}")
-        failed += bool(complaint)
+        few = any(compared_storms[name] < least for name, least in LEAST_STORMS.items())
+        print("pairs of storms: " + ", ".join(f"{count} {name}" for name, count in compared_storms.items()) + (": TOO FEW" if few else ""))
+        failed += bool(complaint) + few
     print("inputs by refusal: " + ", ".join(f"{number}: {count}" for number, count in sorted(refusals.items())))
     print("figures compared: " + ", ".join(f"{count} {way}" for way, count in judged.items()))
     print(f"{time.process_time() - started:.0f} s in this process", file=sys.stderr)

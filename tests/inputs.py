@@ -24,6 +24,8 @@ class Input:
     fractions: bool = True  # whether the run in fractions judges it
     pieces: int = 0  # above 0: written to the program in pieces of so many bytes
     twin: Callable = None  # as build, with the same numbers in records or in a table of version 1; the outputs must be equal
+    wetter: Callable = None  # as build, with at least these rains and all else equal: at least as much water, equal variances (M-106)
+    larger: bool = False  # whether some discharge of wetter must be larger
 
 
 # ---- Rivers --------------------------------------------------------------------------------------------------------------------------
@@ -1061,6 +1063,129 @@ def tables_in_both():
     yield "river of 64", lambda random: some_river(random, counts=(64,), steps=(2,), ways=("typical",), gauge_count=16)
 
 
+# ---- Two storms, the second with more rain ---------------------------------------------------------------------------------------------
+
+HIGHEST_RAIN = 3_000
+VERSIONS_OF_STORMS = (0, 0), (0, 1), (1, 0), (1, 1)  # which of two storms has its records in version 2
+# The highest rains of 8 to 11 bits, and the last below the highest of all.
+BORDERS = (255, 511, 1_023, 2_047, HIGHEST_RAIN - 1)
+
+
+def with_rains(records, rains):
+    return [(row, *record[1:]) for row, record in zip(rains, records)]
+
+
+def rained(*rains, stages=()):
+    """Records of one basin; by record its stages, or none."""
+    return [((rain,), stages) for rain in rains]
+
+
+def one_basin(leads=3, **rest):
+    gauges = rest.pop("gauges", [])
+    return dict(version=2, T=60, L=leads, elements=[basin(**dict(first_variance=300, W=5_000, G=1_000) | rest)], gauges=gauges)
+
+
+def basin_and_reach(above=1, leads=1, **rest):
+    """So many equal basins that drain into one reach."""
+    return dict(T=60, L=leads, elements=[*(basin(down=above + 1, **rest) for _ in range(above)), reach(W=9)], gauges=[])
+
+
+def storms_at_gauges():
+    """(name, table, records, the second storm's rains): what a reading does to two discharges."""
+    low, high = gauge(1, R=200), gauge(1, R=100, beta=500)
+    for name, stage, rains, more, given in (
+            ("reading below both", 500, (100, 200), (200, 3_000), low), ("reading between both", 1_500, (10, 0), (100, 90), low),
+            ("reading above both", 3_000, (1, 2), (90, 30), low), ("reading that is all but taken", 1_500, (0, 50), (90, 50), low | dict(R=1)),
+            ("reading of little weight", 1_500, (0, 50), (90, 50), low | dict(R=CEILING)),
+            ("noise by beta", 1_500, (0, 24), (24, 3_000), high)):
+        yield name, one_basin(gauges=[given]), rained(*rains, stages=(stage,)), [(rain,) for rain in more]
+    yield "no variance", one_basin(first_variance=0, W=0, gauges=[low]), rained(5, 5, stages=(2_000,)), [(6,), (3_000,)]
+
+
+def storms():
+    """(name, table, records, the second storm's rains), all accepted whole and with some larger discharge."""
+    yield "one basin, one step", one_basin(leads=1), rained(100), [(101,)]
+    yield "each border", one_basin(), rained(*BORDERS), [(rain + 1,) for rain in BORDERS]
+    yield "from each border to the highest", one_basin(), rained(*BORDERS), [(HIGHEST_RAIN,) for _ in BORDERS]
+    yield "sums of three past 4,096 and 8,192", one_basin(), rained(*[1_365] * 3, 2_730, 2_730, 2_731), [
+        (rain,) for rain in (1_366, 1_365, 1_365, 2_730, 2_731, 2_731)]
+    yield "more wet steps", one_basin(leads=12), rained(100, 0, 0, 0), [(100,), (1,), (1,), (0,)]
+    yield "from no rain", one_basin(), rained(0, 0, 0), [(0,), (1,), (HIGHEST_RAIN,)]
+    yield "product past 2 ** 32", one_basin(), rained(238, 0), [(239,), (0,)]
+    yield "rain at the first step alone", one_basin(leads=1), rained(200, 0, 0), [(400,), (0,), (0,)]
+    yield "sum of outflows past 2 ** 32", basin_and_reach(area=400_000), rained(20, 20, 20), [(36,), (36,), (36,)]
+    yield "forecast of the second refused by 16", basin_and_reach(2, area=400_000), [((20, 20), ()), ((0, 0), ()), ((0, 1), ())], [
+        (36, 36), (0, 0), (0, 2)]
+    yield from storms_at_gauges()
+    for name, (table, records) in (("small table", small_river()), ("dams", dam_river()), ("beta in the network", noise_river())):
+        basins = count_of(table, 1)
+        yield f"{name}, a little more", table, records, [[min(HIGHEST_RAIN, rain + 1) for rain in record[0]] for record in records]
+        yield f"{name}, the highest", table, records, [(HIGHEST_RAIN,) * basins for _ in records]
+    yield "confluence of five", basin_and_reach(5, area=700), [((k, 0, 9, 300, 7), ()) for k in range(4)], [
+        (k, 1, 9, 300, HIGHEST_RAIN) for k in range(4)]
+    long_river = [basin(down=2)] + [reach(down=(number + 1) * (number < 64), lag=60 + number) for number in range(2, 65)]
+    yield "river of 64", dict(T=60, L=2, elements=long_river, gauges=[gauge(20, R=9), gauge(40)]), [
+        ((90,), stages) for stages in ((GAP, 900), (700, GAP), (GAP, GAP))], [(HIGHEST_RAIN,), (90,), (91,)]
+
+
+def storm_table(random):
+    """A table whose steps are accepted by any rains: what all its water comes to is under C."""
+    count, shape, step_minutes = random.choice((1, 2, 3, 5, 8)), random.choice(SHAPES), random.choice((1, 10, 60, 60, 1_440))
+    kinds = [1] + river_kinds(random, shape, count)[1:]
+    known, lags = random.choice((0, 1, 1, 1)), random.choice(("equal", "multiple", "any"))
+    elements = []
+    for number, kind in enumerate(kinds, 1):
+        element = dict(kind=kind, down=river_down(random, shape, kinds, number), first_discharge=random.randint(0, 500_000_000 // count),
+                       first_variance=known * random.randint(0, 10_000), W=known * random.choice((0, 9, random.randint(0, 500_000))))
+        if kind != 3:
+            element |= dict(lag=some_lag(random, step_minutes, lags))
+        if kind == 1:
+            element |= dict(area=random.randint(1, 3_000 // count), f=random.choice((1_000, random.randint(1, 1_000))),
+                            G=random.choice((0, random.randint(0, 1_000_000))))
+        elements.append(element)
+    gauged = [number for number, kind in enumerate(kinds, 1) if kind != 3]
+    gauges = [gauge(number, R=random.choice((1, 200, 10 ** 6, 10 ** 9)), beta=random.choice((0, 0, 100, 500)),
+                    pieces=[(1_000, random.choice((1, 30_000)), 0), (30_001, 20_000, -500)])
+              for number in sorted(random.sample(gauged, min(len(gauged), random.choice((0, 1, 1, 3)))))]
+    return dict(version=2, T=step_minutes, L=random.choice((1, 2, 3, random.randint(1, 12))), elements=elements, gauges=gauges)
+
+
+def more_rain(random, rain):
+    """At least this rain: as much, a little more, past the next border, or much more."""
+    border = next((each + 1 for each in BORDERS if each >= rain), HIGHEST_RAIN)
+    return random.choice((rain, min(HIGHEST_RAIN, rain + 1), min(HIGHEST_RAIN, rain + random.randint(1, 40)), border,
+                          random.randint(rain, HIGHEST_RAIN)))
+
+
+def one_more(random, rains):
+    """One basin at one step alone."""
+    place, new = random.choice([(k, at) for k, row in enumerate(rains) for at, _ in enumerate(row)]), [list(row) for row in rains]
+    new[place[0]][place[1]] = random.randint(new[place[0]][place[1]], HIGHEST_RAIN)
+    return new
+
+
+# By name: the rains of a second storm from those of the first.
+INCREASES = {
+    "one rain": one_more,
+    "some rains": lambda random, rains: [[more_rain(random, rain) for rain in row] for row in rains],
+    "every rain by one": lambda random, rains: [[min(HIGHEST_RAIN, rain + 1) for rain in row] for row in rains],
+    "every rain the highest": lambda random, rains: [[HIGHEST_RAIN for _ in row] for row in rains],
+}
+
+
+def drawn_storms(random, increase):
+    """The inputs of both storms; their records are of any version each."""
+    table, steps, gaps = storm_table(random), random.randint(1, 6), random.choice((0, 0.3, 0.8))
+    basins, dams = count_of(table, 1), count_of(table, 3)
+    some = random.choice(((0,), (0, 0, 1, 40), (0, 30, 200, *BORDERS)))
+    rains = [[random.choice(some) for _ in range(basins)] for _ in range(steps)]
+    most = 300_000_000 // len(table["elements"])
+    records = [(row, [GAP if random.random() < gaps else random.choice((500, 1_000, random.randint(0, 3_000))) for _ in table["gauges"]],
+                [random.randint(0, most) for _ in range(dams)]) for row in rains]
+    both = records, with_rains(records, increase(random, rains))
+    return [whole_input(table, [in_floats(record, random) if random.random() < 0.5 else record for record in each]) for each in both]
+
+
 # ---- Cut, spoiled and random inputs ----------------------------------------------------------------------------------------------------
 
 
@@ -1299,6 +1424,7 @@ def inputs(long=False):
         add(f"curve: {name}", fixed(whole_input(table, records)))
     add_floats(add, long)
     add_noises(add, long)
+    add_storms(add, long)
     return found
 
 
@@ -1342,6 +1468,17 @@ def add_noises(add, long):
         add(f"noise river cut at {at}", fixed(data[:at]))
         for value in spoiled_values(data[at])[:None if long or at in betas else 1]:
             add(f"noise river spoiled at {at} by {value}", fixed(spoiled(data, at, value)))
+
+
+def add_storms(add, long):
+    for k, (name, table, records, rains) in enumerate(storms()):
+        build, wetter = (fixed(whole_input(table, list(map(in_floats, each)) if way else each))
+                         for way, each in zip(VERSIONS_OF_STORMS[k % 4], (records, with_rains(records, rains))))
+        add(f"storm: {name}", build, fractions=False, wetter=wetter, larger=True)
+    for name, increase in INCREASES.items():
+        for _ in range(400 if long else 40):
+            build, wetter = (lambda random, increase=increase, which=which: drawn_storms(random, increase)[which] for which in (0, 1))
+            add(f"storm: drawn, {name}", build, fractions=False, wetter=wetter)
 
 
 def random_for(seed, number):

@@ -8,9 +8,11 @@
 
 form, fractions and limit look at the program's own lines and at the input, never at the whole-number calculator. A fifth check, versions,
 looks at two outputs: the same readings in records of either version print the same lines (M-104), and so do the same numbers in a table of
-either version, β being 0 (M-105).
+either version, β being 0 (M-105). A sixth, rain, looks at the outputs of two storms, the second with at least the rain of the first
+(M-106).
 """
 import re
+from itertools import takewhile
 
 from calculator.fractions_run import EnclosedNumbers, ExactNumbers, FractionsRun
 from calculator.program import cut_records, cut_table
@@ -21,6 +23,8 @@ EXACT_WORK = 40  # elements x (steps + leads) up to which the run is in fraction
 
 
 judged = {"in fractions": 0, "between bounds": 0}  # discharges and variances compared so far
+# Of pairs of storms, so far; forecasts are those that one storm's step has and the other's is refused.
+compared_storms = {"accepted whole": 0, "lines": 0, "larger discharges": 0, "forecasts on one side": 0}
 
 
 class Malformed(Exception):
@@ -142,6 +146,34 @@ def version_complaint(output, other):
     lines, others = output.split(b"\n"), other.split(b"\n")
     apart = next((line for line, pair in enumerate(zip(lines, others), 1) if pair[0] != pair[1]), min(len(lines), len(others)))
     return {} if lines == others else {"versions": f"differs from version 1 at line {apart}"}
+
+
+def step_stands(answer):
+    return answer[0] == "figures" or answer[3]
+
+
+def rain_complaint(data, output, wetter, its_output, must_be_larger=False):
+    """The check rain (M-106): a dict as judge gives it, of two storms of one table, equal but for the rains, of which the second has at
+    least those of the first: no discharge is less, the variances are equal. Held up to the first step that either refuses."""
+    try:
+        pairs = list(zip(list(answers(data, output)), list(answers(wetter, its_output))))
+    except Malformed as malformed:
+        return {"rain, form": str(malformed)}
+    accepted = list(takewhile(lambda pair: all(map(step_stands, pair)), pairs))
+    rows = [both for one, other in accepted if one[0] == other[0] == "figures" for both in zip(one[2], other[2])]
+    larger, found = sum(other[3] > one[3] for one, other in rows), {}
+    for one, other in rows:
+        where = "step {}, element {}, lead {}".format(*one[:3])
+        if other[3] < one[3]:
+            found.setdefault("rain, discharge", f"less by more rain: {one[3]} and {other[3]} at {where}")
+        if other[5] != one[5]:
+            found.setdefault("rain, variance", f"changed by rain: {one[5]} and {other[5]} at {where}")
+    if must_be_larger and not larger:
+        found["rain, none larger"] = "no discharge is larger"
+    sides = sum(one[0] != other[0] for one, other in accepted)
+    for name, count in zip(compared_storms, (0 < len(pairs) == len(accepted), len(rows), larger, sides)):
+        compared_storms[name] += count
+    return found
 
 
 def chosen_numbers(data):
