@@ -2,8 +2,8 @@
 
 cases() lists them; nothing is built before it is asked for. What standard input can reach is tried in inputs.py; here is the rest:
 states that no run brings about, lent space, places that no call may touch, each of rule 16's numbers on the ceiling, old and new outflows
-above a reach, looks along a curve with their noise, trials of a step, floats in steps and trials, tables of either version, and what a
-display gets.
+above a reach, looks along a curve with their noise, trials of a step, floats in steps and trials, tables of either version, what a
+display gets, and two storms.
 """
 from dataclasses import dataclass, replace
 from itertools import product
@@ -18,7 +18,7 @@ from inputs import (ABOVE_ALL, BYTE_ORDERS, CURVE_EDGES, CURVE_NOISE, DAM_RECORD
                     float_river, float_rivers, float_rows, float_table, gauge, gauged_reaches, in_floats, last_places, mean_inflow_rivers,
                     near_halves, noise_edges, noise_edits, noise_orders, noise_river, noise_rivers, noise_table, piece_of, rule_edits,
                     reach, river_of_curves, small_river, small_table, some_curve, some_records, some_stage, some_table, some_trouble,
-                    spoiled, spoiled_values, stage_bits, stages_of, taking_curve)
+                    spoiled, spoiled_values, stage_bits, stages_of, storms, taking_curve, with_rains)
 
 LARGEST = 2 ** 64 - 1
 ROOM_FOR_ALL = 4 * 64 * 13
@@ -35,6 +35,7 @@ class Call:
     side: int = 0  # 0: bytes, state and numbers stand right before a page without access, 1: right after one
     asked: tuple = (0, 0)  # gauge and stage of a rate, discharge and margin of a show
     twin: bool = False  # the call before has the same readings, or table, in the other version: the replies must be equal
+    wetter: bool = False  # the call before is that of a storm with at most this one's rain, all else equal
 
 
 @dataclass
@@ -1463,6 +1464,29 @@ def show_cases():
     yield "random", shown_at_random
 
 
+# ---- Two storms ----------------------------------------------------------------------------------------------------------------------------
+
+
+def calls_of_storms(table, records, rains):
+    """Of two storms, the second with more rain: a forecast from the start, and by record a trial, a step and a forecast, each of both."""
+    data, need = table_bytes(table), 4 * len(table["elements"])
+
+    def build(random):
+        def both(entry, states, sent=(b"", b""), room=0):
+            one, other = (Call(f"{storm} storm, {entry}", entry, data, state, record, lent_numbers(random, room), random.randrange(2))
+                          for storm, state, record in zip(("first", "second"), states, sent))
+            return [one, replace(other, wetter=True)]
+
+        states = [start(data, noise_state(random))] * 2
+        yield from both("forecast", states, room=need * (table["L"] + 1))
+        for pair in zip(records, with_rains(records, rains)):
+            sent = [record_bytes(*record) for record in pair]
+            yield from both("trial", states, sent, need) + both("step", states, sent)
+            states = [step(data, record, state) for record, state in zip(sent, states)]
+            yield from both("forecast", states, room=need * (table["L"] + 1))
+    return build
+
+
 # ---- The list ----------------------------------------------------------------------------------------------------------------------------
 
 
@@ -1541,4 +1565,5 @@ def cases():
     for name, table, records in (*noise_rivers(), *noise_orders()):
         found.append(Case(f"noise: {name}, run", steps_of(table, records), exact=True))
     found += [Case(f"show: {name}", build) for name, build in show_cases()]
+    found += [Case(f"storm: {name}", calls_of_storms(*pair)) for name, *pair in storms()]
     return found

@@ -8,8 +8,8 @@ The library is target/staticlib/libriver.a unless another path is given; tests/c
 are the refusal, all 450 numbers of the lent state, the count and all lent numbers, what a rate answers, or the bits of what a display gets,
 and whether the host's own memory stayed as it was.
 Some neighbouring calls are held against each other too, whatever the calculator says: a trial against the step that follows it, two trials
-that differ in one gauge's reading, two calls with the same readings in records of either version, and two with the same numbers in tables
-of either version. Runs from a start are judged by the run in fractions too. The last line is "calls: N calls in M cases, F failed"; the
+that differ in one gauge's reading, two calls with the same readings in records of either version, two with the same numbers in tables of
+either version, and two of storms, the second with more rain. Runs from a start are judged by the run in fractions too. The last line is "calls: N calls in M cases, F failed"; the
 exit code is 0 only where none failed. A failed case can be made again by its seed and number.
 """
 import argparse
@@ -164,15 +164,18 @@ def complaint(expected, reply):
     return f"number {at} is {got}, not {right}"
 
 
+def figures_in(call, reply):
+    """By element, and of a forecast by lead too, the four figures that an accepted call hands out."""
+    if call.entry in ("forecast", "trial"):
+        return [reply.numbers[at:at + 4] for at in range(0, reply.count, 4)]
+    return [reply.numbers[at:at + 4] for at in range(2, 2 + 7 * call.table[8], 7)]
+
+
 def handed_out(call, reply, run):
     """(figure, margin, exact) of all that an accepted call of a run hands out."""
-    if call.entry in ("forecast", "trial"):
-        by_lead = run.forecast() if call.entry == "forecast" else [run.trial(call.record)]
-        rows = [(reply.numbers[at:at + 4], *divmod(at // 4, len(by_lead))) for at in range(0, reply.count, 4)]
-    else:
-        by_lead = [run.figures]
-        rows = [(reply.numbers[2 + 7 * place:6 + 7 * place], place, 0) for place in range(len(run.figures))]
-    for row, place, lead in rows:
+    by_lead = run.forecast() if call.entry == "forecast" else [run.trial(call.record) if call.entry == "trial" else run.figures]
+    for at, row in enumerate(figures_in(call, reply)):
+        place, lead = divmod(at, len(by_lead))
         discharge, variance = by_lead[lead][place]
         yield row[0], row[1], discharge
         yield row[2], row[3], variance
@@ -230,12 +233,23 @@ def independence_complaint(table, gauge, one, other):
                  if one.numbers[4 * place:4 * place + 4] != other.numbers[4 * place:4 * place + 4]), None)
 
 
+def storm_complaint(one, reply, other, next_reply):
+    """M-106: where both calls are accepted, the storm with more rain has no less discharge, and equal variances."""
+    if reply.refusal or next_reply.refusal:
+        return None
+    rows = zip(figures_in(one, reply), figures_in(other, next_reply))
+    return next((f"more rain brings {more[0]} and variance {more[2]} for {less[0]} and {less[2]}, row {at}"
+                 for at, (less, more) in enumerate(rows) if more[0] < less[0] or more[2] != less[2]), None)
+
+
 def neighbour_complaints(calls, replies):
     """What neighbouring calls on one table and state say against each other, by place of the second; None where nothing."""
     for place in range(1, len(calls)):
         (one, other), (reply, next_reply) = calls[place - 1:place + 1], replies[place - 1:place + 1]
         if other.twin:
             yield place, None if reply == next_reply else "the same readings or table in the other version are answered otherwise"
+        if other.wetter:
+            yield place, storm_complaint(one, reply, other, next_reply)
         if one.entry != "trial" or one.table != other.table or one.state is not other.state:
             continue
         if other.entry == "step" and one.record == other.record:
