@@ -8,7 +8,7 @@ For each mutant the checks of judge.py that caught it are printed with the count
 records) only where these do not catch it, and on the other small ones last.
 
 Some are tried once more without the calculator: by the same readings in records of either version, or the same numbers in tables of either
-version, whose outputs must be equal. Then come wrong runs in fractions, which must find fault with the right program.
+version, whose outputs must be equal, and by two storms, of which the second has more rain. Then come wrong runs in fractions, which must find fault with the right program.
 
 Wrong libraries in the place of the C interface follow, which the comparison of calls.py must catch; with --libraries these alone. Some are
 then tried once more by what neighbouring calls say against each other, without the calculator. The last of them are in C:
@@ -37,7 +37,7 @@ from calculator.whole_numbers import (BASIN, CEILING, DAM, ELEMENT_BYTES, GAP, G
 from call_cases import Watched, cases
 from calls import ROOT, Library, built_driver, compare, made_calls
 from inputs import SHAPES, inputs, random_for
-from judge import check_figures, judge, version_complaint
+from judge import check_figures, judge, rain_complaint, version_complaint
 
 SEED = 1
 ENOUGH = 25  # inputs that catch a mutant; no more are tried then (of the slow ones, after one)
@@ -1252,6 +1252,118 @@ class HighestBetaRefused(WrongNoise):
         return right
 
 
+# ---- Less water by more rain, or another variance ----------------------------------------------------------------------------------------
+
+
+class RainIn8Bits(Rules):
+    def kept(self, rain):
+        return rain % 256
+
+    def readings(self, table, record):
+        rains, *rest = super().readings(table, record)
+        return [self.kept(rain) for rain in rains], *rest
+
+
+class RainCappedAndWrapped(RainIn8Bits):
+    """A rain above 1,024 is taken as 1,024, which has one bit more than is kept."""
+
+    def kept(self, rain):
+        return min(rain, 1_024) % 1_024
+
+
+class RainSumIn12Bits(Rules):
+    def lead_rain_inflow(self, element, rains, steps, lead):
+        return super().lead_rain_inflow(element, (sum(rains[:min(3, steps)]) % 4_096,), steps, lead)
+
+
+class RainProductIn32Bits(Rules):
+    def step_rain_inflow(self, element, rain):
+        right = super().step_rain_inflow(element, rain)
+        return replace(right, discharge=5 * rain * element.area * element.runoff % 2 ** 32 // 18)
+
+
+class LossBySquareOfRain(Rules):
+    def step_rain_inflow(self, element, rain):
+        right = super().step_rain_inflow(element, rain)
+        return replace(right, discharge=right.discharge * (HIGHEST_RAIN - rain) // HIGHEST_RAIN)
+
+
+class MeanOfWetRains(Rules):
+    """The mean over the count of the rains above 0."""
+
+    def lead_rain_inflow(self, element, rains, steps, lead):
+        wet = [rain for rain in rains[:min(3, steps)] if rain]
+        return super().lead_rain_inflow(element, wet, len(wet), lead)
+
+
+class LeadNoiseAfterRain(Rules):
+    """No G where no rain has come."""
+
+    def lead_rain_inflow(self, element, rains, steps, lead):
+        return super().lead_rain_inflow(element, rains, steps, lead if any(rains) else 0)
+
+
+class InflowVarianceOfRain(Rules):
+    """A tenth of a step's inflow as its standard deviation."""
+
+    def step_rain_inflow(self, element, rain):
+        right = super().step_rain_inflow(element, rain)
+        return replace(right, variance=(right.discharge // 10_000) ** 2 // 1_000)
+
+
+class GainOfDischarge(Rules):
+    """In the gain a tenth of the discharge counts as a standard deviation too."""
+
+    def gain(self, figures, noise):
+        return super().gain(replace(figures, variance=figures.variance + (figures.discharge // 10_000) ** 2 // 1_000), noise)
+
+
+class GainOfDistance(Rules):
+    """In the gain the square of the distance from the reading is added to the variance."""
+
+    def correct(self, figures, z, noise):
+        square = (abs(z - figures.discharge) // 1_000) ** 2 // 1_000
+        gain, gain_margin = self.gain(replace(figures, variance=figures.variance + square), noise)
+        discharge, margin = self.blend(figures.discharge, figures.margin, z, 1, SCALE - gain, gain_margin)
+        return replace(super().correct(figures, z, noise), discharge=discharge, margin=margin)
+
+
+class NoiseOfDischarge(WrongNoise):
+    """The noise is that of the element's discharge, not of the reading's."""
+
+    def noise(self, gauge, z):
+        return gauge
+
+    def correct(self, figures, z, gauge):
+        return super().correct(figures, z, super().noise(gauge, figures.discharge))
+
+
+class OnlyReadingsAbove(Rules):
+    """A reading below the element's discharge corrects nothing."""
+
+    def correct(self, figures, z, noise):
+        return super().correct(figures, z, noise) if z > figures.discharge else figures
+
+
+class OutflowsIn32Bits(WrongInflow):
+    def spoil(self, right, old, new):
+        return replace(right, discharge=total([*old, *new], "discharge") % 2 ** 32 // 2)
+
+
+class HalfLagAtHighWater(Rules):
+    """Above 100 m³/s an element empties twice as fast."""
+
+    def move(self, element, weight, old, inflow):
+        return super().move(element, weight * weight // SCALE if old.discharge > 100_000_000 else weight, old, inflow)
+
+
+class DamHoldsInflowBack(Rules):
+    """What drains into a dam is taken off its release."""
+
+    def dam(self, element, release, old, drained):
+        return Figures(max(0, release - drained.discharge), 0, element.system_noise, 0)
+
+
 # ---- Wrong refusals --------------------------------------------------------------------------------------------------------------------
 
 
@@ -2365,6 +2477,11 @@ APART_BY_TABLE = (TableVersionTwoRefused, GaugesOf46Bytes, GaugesOf48Bytes, Beta
 # Of wrong floats, what the same readings in both versions show.
 APART_BY_VERSION = (MillimetresCutOff, FloatGapAsZero, FloatsInMillimetres, ExponentOneHigh, LeadingOneLeftOut, FloatsFromLastByte,
                     FloatsBeforeReleases, VersionTwoRefused)
+# What two storms show, the second with more rain. A wrong rule by which more rain still gives at least as much water, as RainSumByThree,
+# is none of these.
+APART_BY_RAIN = (RainIn8Bits, RainCappedAndWrapped, RainSumIn12Bits, RainProductIn32Bits, LossBySquareOfRain, MeanOfWetRains,
+                 LeadNoiseAfterRain, InflowVarianceOfRain, GainOfDischarge, GainOfDistance, NoiseOfDischarge, OnlyReadingsAbove,
+                 OutflowsIn32Bits, HalfLagAtHighWater, DamHoldsInflowBack)
 WRONG_DISPLAYS = (DisplayMultiplied, DisplayDividedTwice, DisplayIn32Bits, DisplayOfCountIn32Bits, DisplayCutOff, DisplayInLitres,
                   DisplayChangedOver, DisplayNotJudged, DisplayDischargeJudged, DisplayMarginJudged, DisplayLowHalvesJudged,
                   DisplayOfCeilingRefused)
@@ -2737,8 +2854,8 @@ def caught_libraries():
         calls = list(case.build(random_for(SEED, number)))
         built.append((number + 1, replace(case, exact=False), calls, [right.reply(call) for call in calls]))
     record_rules = tuple(f"rule {number}" for number in range(10, 19))
-    trials, inflows, floats, noises, shows = ([each for each in built if each[1].name.startswith(begins)] for begins in (
-        "trial: ", "mean inflow: ", ("float: ", *record_rules), NOISE_CASES, "show: "))
+    trials, inflows, floats, noises, shows, storms = ([each for each in built if each[1].name.startswith(begins)] for begins in (
+        "trial: ", "mean inflow: ", ("float: ", *record_rules), NOISE_CASES, "show: ", "storm: "))
 
     def first_caught(reply_to, among, alone=False):
         """`alone`: by neighbouring calls alone, as if the calculator had the same mistake."""
@@ -2765,6 +2882,8 @@ def caught_libraries():
         yield f"{wrong.__name__}, by both versions alone", *first_caught(Library(wrong()).reply, floats, alone=True)
     for wrong in APART_BY_TABLE:
         yield f"{wrong.__name__}, by both tables alone", *first_caught(Library(wrong()).reply, noises, alone=True)
+    for wrong in APART_BY_RAIN:
+        yield f"{wrong.__name__}, by two storms alone", *first_caught(Library(wrong()).reply, storms, alone=True)
     if first_caught_in_c("as it stands", ())[0] != "NOT CAUGHT":
         sys.exit("bench/plain_calls.c as it stands is caught; see tests/calls.py")
     for name, changes in WRONG_IN_C.items():
@@ -2786,12 +2905,13 @@ FLOATS_FIRST, FLOAT_FAMILIES = names_of(WrongFloats, EighteenEndsRun), ("float",
                                                                        "last place: 18")
 NOISES_FIRST, NOISE_FAMILIES = names_of(WrongNoise, OneTableByteMore, LongestOfVersionOne, LongestByVersion), (
     "noise", "size of table: ", "last place: 7, beta", "last place: 16")
+STORMS_FIRST, STORM_FAMILIES = {wrong.__name__ for wrong in APART_BY_RAIN}, "storm: "
 
 
 def chosen_inputs():
-    """Five groups: those with floats, those with noises, some dozens of all other families, the slow ones, the other quick ones that are
-    small."""
-    floats, noises, dozens, others, slow, seen = [], [], [], [], [], {}
+    """Six groups: those with floats, those with noises, storms, some dozens of all other families, the slow ones, the other quick ones that
+    are small."""
+    floats, noises, storms, dozens, others, slow, seen = [], [], [], [], [], [], {}
     for number, given in enumerate(inputs()):
         family = given.family.split(" cut at")[0].split(" spoiled at")[0]
         seen[family] = seen.get(family, 0) + 1
@@ -2799,6 +2919,8 @@ def chosen_inputs():
             floats.append((number, given))
         elif given.family.startswith(NOISE_FAMILIES):
             noises.append((number, given))
+        elif given.family.startswith(STORM_FAMILIES):
+            storms.append((number, given))
         elif not given.fractions:
             slow.append((number, given))
         elif family.startswith(("river of 64", "longest", "long river", "Yubetsu")):
@@ -2807,16 +2929,22 @@ def chosen_inputs():
             dozens.append((number, given))
         else:
             others.append((number, given))
-    return floats, noises, dozens, slow, others
+    return floats, noises, storms, dozens, slow, others
+
+
+def told(caught):
+    """By check: how many inputs it caught a wrong program on."""
+    return ", ".join(f"{check} {count}" for check, count in sorted(caught.items())) if caught else "NOT CAUGHT"
 
 
 def try_programs():
     """Prints a line for each wrong program; gives how many were tried and how many not caught."""
-    (floats, noises, *groups), expected = chosen_inputs(), {}
+    (floats, noises, storms, *groups), expected = chosen_inputs(), {}
     tried = missed = 0
     for name, wrong in mutants():
         caught, used = {}, 0
-        for group in ([floats] * (name in FLOATS_FIRST) + [noises] * (name in NOISES_FIRST) + groups + [floats, noises]):
+        for group in ([floats] * (name in FLOATS_FIRST) + [noises] * (name in NOISES_FIRST) + [storms] * (name in STORMS_FIRST) + groups
+                      + [floats, noises, storms]):
             for number, given in group:
                 if caught.get("bytes", 0) >= (ENOUGH if given.fractions else 1):
                     break
@@ -2833,8 +2961,7 @@ def try_programs():
                 break
         tried += 1
         missed += not caught
-        words = ", ".join(f"{check} {count}" for check, count in sorted(caught.items())) if caught else "NOT CAUGHT"
-        print(f"{name}: {words} (of {used} inputs)")
+        print(f"{name}: {told(caught)} (of {used} inputs)")
     return tried, missed
 
 
@@ -2850,6 +2977,21 @@ def try_versions():
             missed += not caught
             print(f"{wrong.__name__}, by both {words} alone: {f'versions {caught}' if caught else 'NOT CAUGHT'} (of {len(pairs)} inputs)")
     return len(APART_BY_VERSION) + len(APART_BY_TABLE), missed
+
+
+def try_storms():
+    """Wrong programs by which more rain gives less water somewhere, or another variance: how many tried and how many not caught."""
+    pairs = [[build(random_for(SEED, number)) for build in (given.build, given.wetter)]
+             for number, given in enumerate(inputs()) if given.wetter]
+    missed = 0
+    for wrong in APART_BY_RAIN:
+        program, caught = Program(wrong()), {}
+        for data, wetter in pairs:
+            for check in rain_complaint(data, program.run(data), wetter, program.run(wetter)):
+                caught[check] = caught.get(check, 0) + 1
+        missed += not caught
+        print(f"{wrong.__name__}, by two storms alone: {told(caught)} (of {len(pairs)} pairs)")
+    return len(APART_BY_RAIN), missed
 
 
 # ---- Wrong runs in fractions -------------------------------------------------------------------------------------------------------------
@@ -2929,7 +3071,7 @@ def try_papers():
 
 def main():
     chosen = sys.argv[1:]
-    parts = ([] if chosen else [try_programs, try_versions, try_fractions]) + ([] if "--libraries" in chosen else [try_papers])
+    parts = ([] if chosen else [try_programs, try_versions, try_storms, try_fractions]) + ([] if "--libraries" in chosen else [try_papers])
     tried, missed = map(sum, zip((0, 0), *(part() for part in parts)))
     for name, caught, used in caught_libraries() if "--papers" not in chosen else ():
         tried, missed = tried + 1, missed + (caught == "NOT CAUGHT")

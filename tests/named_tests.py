@@ -5,7 +5,8 @@
 
   names   each stands in the quick list of inputs.py, in call_cases.py, live_line.py or mutants.py, or begins names that stand there
   rules   by the calculator the named inputs print the rule's number, and not all of them; the same for the named calls' refusals
-  wrong   each wrong program or library in Python is caught by inputs or calls of its row; of those in C only the name is looked up
+  wrong   each wrong program or library in Python is caught by inputs or calls of its row, by an input with a wetter one only where these
+          two storms show it; of those in C only the name is looked up
   code    the program's main is shown, and what is shown stands so in its source
 
 The last line is "named tests: N names, F failed"; the exit code is 0 only where none failed. Nothing is built or started for it.
@@ -19,7 +20,7 @@ from calculator.program import run
 from call_cases import cases
 from calls import Library
 from inputs import inputs, random_for
-from judge import judge
+from judge import judge, rain_complaint
 from live_line import LINES
 from mutants import SEED, WRONG_IN_C, libraries, mutants
 
@@ -98,15 +99,22 @@ def refused(names):
     return [{reply.refusal} for number in chosen for _, reply in calls_and_replies(number)]
 
 
+def caught_on(number, wrong, check):
+    """Whether an input shows that a program is wrong: by its storms, if it has a wetter one."""
+    given = INPUTS[number]
+    if given.wetter:
+        data, wetter = (build(random_for(SEED, number)) for build in (given.build, given.wetter))
+        return bool(rain_complaint(data, wrong(data), wetter, wrong(wetter)))
+    data, right = input_and_output(number)
+    output = wrong(data)
+    return output != right and (check != "fractions" or "fractions" in judge(data, output, right))
+
+
 def program_caught(row, wrong):
     families = row.found("inputs")
     named = [number for number, given in enumerate(INPUTS) if given.family in families]
-    for number in named + ([number for number, given in enumerate(INPUTS) if given.fractions] if row.check else []):
-        data, right = input_and_output(number)
-        output = wrong(data)
-        if output != right and (row.check != "fractions" or "fractions" in judge(data, output, right)):
-            return True
-    return False
+    every = [number for number, given in enumerate(INPUTS) if given.fractions] if row.check else []
+    return any(caught_on(number, wrong, row.check) for number in named + every)
 
 
 def library_caught(row, wrong):
