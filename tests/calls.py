@@ -9,8 +9,8 @@ are the refusal, all 450 numbers of the lent state, the count and all lent numbe
 and whether the host's own memory stayed as it was.
 Some neighbouring calls are held against each other too, whatever the calculator says: a trial against the step that follows it, two trials
 that differ in one gauge's reading, two calls with the same readings in records of either version, two with the same numbers in tables of
-either version, and two of storms, the second with more rain. Runs from a start are judged by the run in fractions too. The last line is "calls: N calls in M cases, F failed"; the
-exit code is 0 only where none failed. A failed case can be made again by its seed and number.
+either version, and two of storms, the second with more rain. Runs from a start are judged by the run in fractions too. The last line is
+"calls: N calls in M cases, F failed"; the exit code is 0 only where none failed. A failed case can be made again by its seed and number.
 """
 import argparse
 import subprocess
@@ -234,21 +234,19 @@ def independence_complaint(table, gauge, one, other):
 
 
 def storm_complaint(one, reply, other, next_reply):
-    """M-106: where both calls are accepted, the storm with more rain has no less discharge, and equal variances."""
-    if reply.refusal or next_reply.refusal:
-        return None
+    """M-106: of two accepted calls that of the storm with more rain has no less discharge, and equal variances."""
     rows = zip(figures_in(one, reply), figures_in(other, next_reply))
     return next((f"more rain brings {more[0]} and variance {more[2]} for {less[0]} and {less[2]}, row {at}"
                  for at, (less, more) in enumerate(rows) if more[0] < less[0] or more[2] != less[2]), None)
 
 
 def neighbour_complaints(calls, replies):
-    """What neighbouring calls on one table and state say against each other, by place of the second; None where nothing."""
+    """What neighbouring calls on one table say against each other, by place of the second; None where nothing."""
     for place in range(1, len(calls)):
         (one, other), (reply, next_reply) = calls[place - 1:place + 1], replies[place - 1:place + 1]
         if other.twin:
             yield place, None if reply == next_reply else "the same readings or table in the other version are answered otherwise"
-        if other.wetter:
+        if other.wetter and not (reply.refusal or next_reply.refusal):
             yield place, storm_complaint(one, reply, other, next_reply)
         if one.entry != "trial" or one.table != other.table or one.state is not other.state:
             continue

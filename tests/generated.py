@@ -62,6 +62,38 @@ def calculator_program(data, pieces=0):
     return program.run(data)
 
 
+def pair_complaints(under_test, given, seed, number, data, output):
+    """What the outputs for an input and its twin, or its wetter one, say against each other."""
+    found = {}
+    if given.twin:
+        found |= version_complaint(output, under_test(given.twin(random_for(seed, number))))
+    if given.wetter:
+        wetter = given.wetter(random_for(seed, number))
+        found |= rain_complaint(data, output, wetter, under_test(wetter), given.larger)
+    return found
+
+
+def tell(options, number, given, data, found):
+    """Of a failing input: what is wrong, and its bytes, of two storms the second's too."""
+    failures = Path(ROOT / "target/generated")
+    failures.mkdir(parents=True, exist_ok=True)
+    place = failures / f"{'long' if options.long else 'quick'}-{options.seed}-{number}.bin"
+    place.write_bytes(data)
+    if given.wetter:
+        place.with_suffix(".wetter.bin").write_bytes(given.wetter(random_for(options.seed, number)))
+    again = f"--seed {options.seed} --only {number}" + (" --long" if options.long else "")
+    print(f"FAILED {again} ({given.family}), {len(data)} bytes in {place}")
+    for check, complaint in found.items():
+        print(f"  {check}: {complaint}")
+
+
+def few_storms():
+    """Tells how many storms were compared, and whether these are too few."""
+    few = any(compared_storms[name] < least for name, least in LEAST_STORMS.items())
+    print("pairs of storms: " + ", ".join(f"{count} {name}" for name, count in compared_storms.items()) + (", TOO FEW" if few else ""))
+    return few
+
+
 def main():
     parser = argparse.ArgumentParser(description=__doc__, formatter_class=argparse.RawDescriptionHelpFormatter)
     parser.add_argument("program", nargs="?", default=str(ROOT / "target/bin/cabinet"))
@@ -73,7 +105,6 @@ def main():
         sys.exit(f"{options.program} is not there; build the program first")
     under_test = calculator_program if options.program == "calculator" else built_program(str(Path(options.program).resolve()))
     tried_figures.check()
-    failures = Path(ROOT / "target/generated")
     chosen = list(enumerate(inputs(options.long)))
     if options.only is not None:
         chosen = [chosen[options.only]]
@@ -85,32 +116,19 @@ def main():
             refusals[int(refusal)] = refusals.get(int(refusal), 0) + 1
         try:
             output = under_test(data, given.pieces)
-            found = judge(data, output, expected, given.fractions)
-            if given.twin:
-                found |= version_complaint(output, under_test(given.twin(random_for(options.seed, number))))
-            if given.wetter:
-                wetter = given.wetter(random_for(options.seed, number))
-                found |= rain_complaint(data, output, wetter, under_test(wetter), given.larger)
+            found = judge(data, output, expected, given.fractions) | pair_complaints(under_test, given, options.seed, number, data, output)
         except Crashed as crash:
             output, found = b"", {"crash": str(crash)}
         if found:
             failed += 1
         if found and failed <= MOST_SHOWN:
-            failures.mkdir(parents=True, exist_ok=True)
-            place = failures / f"{'long' if options.long else 'quick'}-{options.seed}-{number}.bin"
-            place.write_bytes(data)
-            again = f"--seed {options.seed} --only {number}" + (" --long" if options.long else "")
-            print(f"FAILED {again} ({given.family}), {len(data)} bytes in {place}")
-            for check, complaint in found.items():
-                print(f"  {check}: {complaint}")
+            tell(options, number, given, data, found)
         if options.only is not None:
             print(f"input: {data.hex()}\nexpected:\n{expected.decode()}output:\n{output.decode(errors='replace')}", end="")
     if options.only is None:
         complaint = version_complaint(*map(under_test, every_half_millimetre()))
         print(f"every half millimetre: {complaint.get('versions', 'as in version 1')}")
-        few = any(compared_storms[name] < least for name, least in LEAST_STORMS.items())
-        print("pairs of storms: " + ", ".join(f"{count} {name}" for name, count in compared_storms.items()) + (": TOO FEW" if few else ""))
-        failed += bool(complaint) + few
+        failed += bool(complaint) + few_storms()
     print("inputs by refusal: " + ", ".join(f"{number}: {count}" for number, count in sorted(refusals.items())))
     print("figures compared: " + ", ".join(f"{count} {way}" for way, count in judged.items()))
     print(f"{time.process_time() - started:.0f} s in this process", file=sys.stderr)

@@ -1066,7 +1066,7 @@ def tables_in_both():
 # ---- Two storms, the second with more rain ---------------------------------------------------------------------------------------------
 
 HIGHEST_RAIN = 3_000
-VERSIONS_OF_STORMS = (0, 0), (0, 1), (1, 0), (1, 1)  # which of two storms has its records in version 2
+IN_FLOATS = (False, False), (False, True), (True, False), (True, True)  # whether the records of the first and second storm are
 # The highest rains of 8 to 11 bits, and the last below the highest of all.
 BORDERS = (255, 511, 1_023, 2_047, HIGHEST_RAIN - 1)
 
@@ -1076,7 +1076,7 @@ def with_rains(records, rains):
 
 
 def rained(*rains, stages=()):
-    """Records of one basin; by record its stages, or none."""
+    """A record of one basin for each rain, all with these stages."""
     return [((rain,), stages) for rain in rains]
 
 
@@ -1092,14 +1092,14 @@ def basin_and_reach(above=1, leads=1, **rest):
 
 def storms_at_gauges():
     """(name, table, records, the second storm's rains): what a reading does to two discharges."""
-    low, high = gauge(1, R=200), gauge(1, R=100, beta=500)
-    for name, stage, rains, more, given in (
-            ("reading below both", 500, (100, 200), (200, 3_000), low), ("reading between both", 1_500, (10, 0), (100, 90), low),
-            ("reading above both", 3_000, (1, 2), (90, 30), low), ("reading that is all but taken", 1_500, (0, 50), (90, 50), low | dict(R=1)),
-            ("reading of little weight", 1_500, (0, 50), (90, 50), low | dict(R=CEILING)),
-            ("noise by beta", 1_500, (0, 24), (24, 3_000), high)):
-        yield name, one_basin(gauges=[given]), rained(*rains, stages=(stage,)), [(rain,) for rain in more]
-    yield "no variance", one_basin(first_variance=0, W=0, gauges=[low]), rained(5, 5, stages=(2_000,)), [(6,), (3_000,)]
+    given, all_but_taken, of_little_weight = gauge(1), gauge(1, R=1), gauge(1, R=CEILING)
+    for name, each, stage, rains, more in (
+            ("reading below both", given, 500, (100, 200), (200, 3_000)), ("reading between both", given, 1_500, (10, 0), (100, 90)),
+            ("reading above both", given, 3_000, (1, 2), (90, 30)), ("reading all but taken", all_but_taken, 1_500, (0, 50), (90, 50)),
+            ("reading of little weight", of_little_weight, 1_500, (0, 50), (90, 50)),
+            ("noise by beta", gauge(1, R=100, beta=500), 1_500, (0, 24), (24, 3_000))):
+        yield name, one_basin(gauges=[each]), rained(*rains, stages=(stage,)), [(rain,) for rain in more]
+    yield "no variance", one_basin(first_variance=0, W=0, gauges=[given]), rained(5, 5, stages=(2_000,)), [(6,), (3_000,)]
 
 
 def storms():
@@ -1129,14 +1129,15 @@ def storms():
 
 
 def storm_table(random):
-    """A table whose steps are accepted by any rains: what all its water comes to is under C."""
+    """A table whose steps take any rains: what all its water comes to is under C. In one of four all variances are 0 but for G."""
     count, shape, step_minutes = random.choice((1, 2, 3, 5, 8)), random.choice(SHAPES), random.choice((1, 10, 60, 60, 1_440))
     kinds = [1] + river_kinds(random, shape, count)[1:]
-    known, lags = random.choice((0, 1, 1, 1)), random.choice(("equal", "multiple", "any"))
+    some_variance, lags = random.choice((0, 1, 1, 1)), random.choice(("equal", "multiple", "any"))
     elements = []
     for number, kind in enumerate(kinds, 1):
         element = dict(kind=kind, down=river_down(random, shape, kinds, number), first_discharge=random.randint(0, 500_000_000 // count),
-                       first_variance=known * random.randint(0, 10_000), W=known * random.choice((0, 9, random.randint(0, 500_000))))
+                       first_variance=some_variance * random.randint(0, 10_000),
+                       W=some_variance * random.choice((0, 9, random.randint(0, 500_000))))
         if kind != 3:
             element |= dict(lag=some_lag(random, step_minutes, lags))
         if kind == 1:
@@ -1147,7 +1148,8 @@ def storm_table(random):
     gauges = [gauge(number, R=random.choice((1, 200, 10 ** 6, 10 ** 9)), beta=random.choice((0, 0, 100, 500)),
                     pieces=[(1_000, random.choice((1, 30_000)), 0), (30_001, 20_000, -500)])
               for number in sorted(random.sample(gauged, min(len(gauged), random.choice((0, 1, 1, 3)))))]
-    return dict(version=2, T=step_minutes, L=random.choice((1, 2, 3, random.randint(1, 12))), elements=elements, gauges=gauges)
+    return dict(version=random.choice((1, 2, 2)), T=step_minutes, L=random.choice((1, 2, 3, random.randint(1, 12))), elements=elements,
+                gauges=gauges)
 
 
 def more_rain(random, rain):
@@ -1157,16 +1159,18 @@ def more_rain(random, rain):
                           random.randint(rain, HIGHEST_RAIN)))
 
 
-def one_more(random, rains):
+def one_rain_more(random, rains):
     """One basin at one step alone."""
-    place, new = random.choice([(k, at) for k, row in enumerate(rains) for at, _ in enumerate(row)]), [list(row) for row in rains]
-    new[place[0]][place[1]] = random.randint(new[place[0]][place[1]], HIGHEST_RAIN)
-    return new
+    increased = [list(row) for row in rains]
+    row = random.choice(increased)
+    place = random.randrange(len(row))
+    row[place] = random.randint(row[place], HIGHEST_RAIN)
+    return increased
 
 
 # By name: the rains of a second storm from those of the first.
 INCREASES = {
-    "one rain": one_more,
+    "one rain": one_rain_more,
     "some rains": lambda random, rains: [[more_rain(random, rain) for rain in row] for row in rains],
     "every rain by one": lambda random, rains: [[min(HIGHEST_RAIN, rain + 1) for rain in row] for row in rains],
     "every rain the highest": lambda random, rains: [[HIGHEST_RAIN for _ in row] for row in rains],
@@ -1472,8 +1476,8 @@ def add_noises(add, long):
 
 def add_storms(add, long):
     for k, (name, table, records, rains) in enumerate(storms()):
-        build, wetter = (fixed(whole_input(table, list(map(in_floats, each)) if way else each))
-                         for way, each in zip(VERSIONS_OF_STORMS[k % 4], (records, with_rains(records, rains))))
+        build, wetter = (fixed(whole_input(table, list(map(in_floats, each)) if floats else each))
+                         for floats, each in zip(IN_FLOATS[k % 4], (records, with_rains(records, rains))))
         add(f"storm: {name}", build, fractions=False, wetter=wetter, larger=True)
     for name, increase in INCREASES.items():
         for _ in range(400 if long else 40):

@@ -163,13 +163,13 @@ def rain_complaint(data, output, wetter, its_output, must_be_larger=False):
     rows = [both for one, other in accepted if one[0] == other[0] == "figures" for both in zip(one[2], other[2])]
     larger, found = sum(other[3] > one[3] for one, other in rows), {}
     for one, other in rows:
-        where = "step {}, element {}, lead {}".format(*one[:3])
+        lines = f"{' '.join(map(str, one))}, with more rain {' '.join(map(str, other))}"
         if other[3] < one[3]:
-            found.setdefault("rain, discharge", f"less by more rain: {one[3]} and {other[3]} at {where}")
+            found.setdefault("rain, discharge", f"less: {lines}")
         if other[5] != one[5]:
-            found.setdefault("rain, variance", f"changed by rain: {one[5]} and {other[5]} at {where}")
+            found.setdefault("rain, variance", f"another: {lines}")
     if must_be_larger and not larger:
-        found["rain, none larger"] = "no discharge is larger"
+        found["rain, discharge"] = "none is larger"
     sides = sum(one[0] != other[0] for one, other in accepted)
     for name, count in zip(compared_storms, (0 < len(pairs) == len(accepted), len(rows), larger, sides)):
         compared_storms[name] += count
