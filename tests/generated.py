@@ -119,8 +119,7 @@ def main():
             found = judge(data, output, expected, given.fractions) | pair_complaints(under_test, given, options.seed, number, data, output)
         except Crashed as crash:
             output, found = b"", {"crash": str(crash)}
-        if found:
-            failed += 1
+        failed += bool(found)
         if found and failed <= MOST_SHOWN:
             tell(options, number, given, data, found)
         if options.only is not None:

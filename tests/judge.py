@@ -23,7 +23,7 @@ EXACT_WORK = 40  # elements x (steps + leads) up to which the run is in fraction
 
 
 judged = {"in fractions": 0, "between bounds": 0}  # discharges and variances compared so far
-# Of pairs of storms, so far; forecasts are those that one storm's step has and the other's is refused.
+# Of pairs of storms, so far; on one side is a forecast where the other storm's is refused.
 compared_storms = {"accepted whole": 0, "lines": 0, "larger discharges": 0, "forecasts on one side": 0}
 
 
@@ -169,7 +169,7 @@ def rain_complaint(data, output, wetter, its_output, must_be_larger=False):
         if other[5] != one[5]:
             found.setdefault("rain, variance", f"another: {lines}")
     if must_be_larger and not larger:
-        found["rain, discharge"] = "none is larger"
+        found.setdefault("rain, discharge", "none is larger")
     sides = sum(one[0] != other[0] for one, other in accepted)
     for name, count in zip(compared_storms, (0 < len(pairs) == len(accepted), len(rows), larger, sides)):
         compared_storms[name] += count

@@ -8,7 +8,8 @@ For each mutant the checks of judge.py that caught it are printed with the count
 records) only where these do not catch it, and on the other small ones last.
 
 Some are tried once more without the calculator: by the same readings in records of either version, or the same numbers in tables of either
-version, whose outputs must be equal, and by two storms, of which the second has more rain. Then come wrong runs in fractions, which must find fault with the right program.
+version, whose outputs must be equal, and by two storms, of which the second has more rain. Then come wrong runs in fractions, which must
+find fault with the right program.
 
 Wrong libraries in the place of the C interface follow, which the comparison of calls.py must catch; with --libraries these alone. Some are
 then tried once more by what neighbouring calls say against each other, without the calculator. The last of them are in C:
@@ -2876,14 +2877,10 @@ def caught_libraries():
         asked = {InflowsBy: inflows, FloatsBy: floats, NoisesBy: noises, ShownBy: shows}.get(type(wrong), built)
         yield name, *first_caught(wrong.reply, trials if isinstance(wrong, WrongTrial) else asked)
     yield "ReadingsIgnored in trials, by the step alone", *first_caught(TrialsBy(ReadingsIgnored()).reply, trials, alone=True)
-    for wrong in LEAKS:
-        yield f"{wrong.__name__}, by two trials alone", *first_caught(Library(wrong()).reply, trials, alone=True)
-    for wrong in APART_BY_VERSION:
-        yield f"{wrong.__name__}, by both versions alone", *first_caught(Library(wrong()).reply, floats, alone=True)
-    for wrong in APART_BY_TABLE:
-        yield f"{wrong.__name__}, by both tables alone", *first_caught(Library(wrong()).reply, noises, alone=True)
-    for wrong in APART_BY_RAIN:
-        yield f"{wrong.__name__}, by two storms alone", *first_caught(Library(wrong()).reply, storms, alone=True)
+    for wrongs, among, words in ((LEAKS, trials, "two trials"), (APART_BY_VERSION, floats, "both versions"),
+                                 (APART_BY_TABLE, noises, "both tables"), (APART_BY_RAIN, storms, "two storms")):
+        for wrong in wrongs:
+            yield f"{wrong.__name__}, by {words} alone", *first_caught(Library(wrong()).reply, among, alone=True)
     if first_caught_in_c("as it stands", ())[0] != "NOT CAUGHT":
         sys.exit("bench/plain_calls.c as it stands is caught; see tests/calls.py")
     for name, changes in WRONG_IN_C.items():
