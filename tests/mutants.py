@@ -3036,7 +3036,7 @@ WRONG_METHODS = (GainMarginTwo, ReadingsIgnored, CorrectionVarianceKept, RainSum
                  NewForOldAtLeads, StateForOldAtLeads, DamNewReleaseAsOld, InflowMarginWithoutOne, MeanVariance, ProductIn32Bits, HalvesToEven,
                  EveryNanAGap, NegativesThatRoundToZero, ThirteenForEighteen, DisplayMultiplied, BetaIgnored, TNotRounded, TRoundedUp,
                  NoiseRoundedUp, NoiseWithoutR, NoiseOfUnroundedZ, RInGain, RInGainMargin, RInVariance, RInVarianceMargin, BetaOfNextGauge,
-                 NoiseAboveCeilingTaken)
+                 NoiseAboveCeilingTaken, GainOfDischarge, NoiseOfDischarge, RainIn8Bits, MeanOfWetRains)
 
 
 def changed_figures(text):
