@@ -1,7 +1,7 @@
 -- Two states with at least as much water in the second: a step on records with more rain keeps them so, and every lead of their forecasts is.
 use Prim.Native.Nat.{ℕ, zero, suc, _+_, _≤_, _<_}
 use mathlib.Core.List.{List}
-use mathlib.Core.Path.{_≡_, refl, sym, ap, subst, _∙_}
+use mathlib.Core.Path.{_≡_, refl, sym, ap, _∙_}
 use native.Mathlib.Nat.{le-refl, add-le-add}
 use native.Mathlib.Omega.{arith}
 use lib.ListN.{length}
@@ -31,6 +31,14 @@ pub record MoreRains (r r* : Rains) : Type 0 where
   pub first : r .first ≤ r* .first
   pub second : r .second ≤ r* .second
   pub third : r .third ≤ r* .third
+
+-- the sum of the last c
+more-rain-sum : {r r* : Rains} → MoreRains r r* → (c : ℕ) → rainSum r c ≤ rainSum r* c
+unfolding rainSum
+more-rain-sum m zero = le-refl 0
+more-rain-sum m (suc zero) = m .first
+more-rain-sum m (suc (suc zero)) = add-le-add (m .first) (m .second)
+more-rain-sum m (suc (suc (suc c))) = add-le-add (add-le-add (m .first) (m .second)) (m .third)
 
 pub record MoreWater (t : TableValues) (s s* : State) : Type 0 where
   pub steps : stepsOf s ≡ stepsOf s*
@@ -110,13 +118,6 @@ module _ (t : TableValues) (few : t .elements ≤ mostElements) {s s* : State} (
         }
 
   -- ---- a forecast
-
-  more-rain-sum : {r r* : Rains} → MoreRains r r* → (c : ℕ) → rainSum r c ≤ rainSum r* c
-  unfolding rainSum
-  more-rain-sum m zero = le-refl 0
-  more-rain-sum m (suc zero) = m .first
-  more-rain-sum m (suc (suc zero)) = add-le-add (m .first) (m .second)
-  more-rain-sum m (suc (suc (suc c))) = add-le-add (add-le-add (m .first) (m .second)) (m .third)
 
   more-lead-own : (lead i : ℕ) → i < t .elements → AtLeast (forecastOwn t s lead i) (forecastOwn t s* lead i)
   unfolding forecastOwn leadInflow

@@ -1,19 +1,17 @@
 -- Document 02, M-106: more rain, at least as much water.
 use Prim.Native.Nat.{ℕ, zero, suc, _≤_}
 use mathlib.Core.Bool.{false}
-use mathlib.Core.List.{List, []}
-use mathlib.Core.Path.{_≡_, sym, ap, subst, _∙_}
+use mathlib.Core.List.{List}
+use mathlib.Core.Path.{_≡_, sym, ap, _∙_}
 use native.Mathlib.Omega.{arith}
 use lib.ListN.{length}
 use Rattle.sizes.specs.Sizes.{mostElements, stateNumbers}
 use Rattle.refusal.specs.Answers.{accepted}
 use Rattle.method.specs.declared.Figures.{Figures}
-use Rattle.method.specs.AtLeast.{AtLeast}
 use Rattle.table.specs.Tables.{TableValues}
 use Rattle.table.specs.InUse.{tableIn}
 use Rattle.state.specs.States.{State}
 use Rattle.state.proofs.StateLaws.{started-length}
-use Rattle.network.specs.Forecast.{leadFigures}
 use Rattle.entries.specs.Entries.{startAnswer}
 use Rattle.claim.specs.Calls.{Call, Place}
 use Rattle.claim.specs.CabinetRun.{startOutcome}

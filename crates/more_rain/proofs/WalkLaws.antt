@@ -3,7 +3,7 @@
 use Prim.Native.Nat.{ℕ, _<_}
 use mathlib.Core.Path.{_≡_}
 use Rattle.method.specs.declared.Figures.{Figures}
-use Rattle.method.specs.Inflow.{noInflow, joinedInflow, oldAndNewOutflow}
+use Rattle.method.specs.Inflow.{noInflow, joinedInflow}
 use Rattle.method.specs.AtLeast.{AtLeast}
 use Rattle.method.proofs.OrderLaws.{as-much, more-joined, more-outflow, more-reach-inflow, more-routed, more-corrected}
 use Rattle.elements.specs.declared.Element.{Element}
