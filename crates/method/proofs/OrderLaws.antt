@@ -39,24 +39,32 @@ pub more-forecast-inflow :
 unfolding forecastInflow
 more-forecast-inflow c area f lead G l = record { discharge = mean-rain-order c area f l; variance = refl }
 
-module _ {x x* y y* : Figures} (p : AtLeast x x*) (q : AtLeast y y*) where
-  pub more-joined : AtLeast (joinedInflow x y) (joinedInflow x* y*)
-  unfolding joinedInflow
-  more-joined = record { discharge = add-le-add (p .discharge) (q .discharge); variance = rw (p .variance, q .variance) }
+pub more-joined : {x x* y y* : Figures} → AtLeast x x* → AtLeast y y* → AtLeast (joinedInflow x y) (joinedInflow x* y*)
+unfolding joinedInflow
+more-joined p q = record { discharge = add-le-add (p .discharge) (q .discharge); variance = rw (p .variance, q .variance) }
 
-  -- x old and y new
-  pub more-outflow : AtLeast (oldAndNewOutflow x y) (oldAndNewOutflow x* y*)
-  unfolding oldAndNewOutflow oldOutflow joinedInflow
-  more-outflow = record { discharge = add-le-add (p .discharge) (q .discharge); variance = rw (q .variance) }
+more-old-outflow : {old old* : Figures} → AtLeast old old* → AtLeast (oldOutflow old) (oldOutflow old*)
+unfolding oldOutflow
+more-old-outflow p = record { discharge = p .discharge; variance = refl }
 
-  -- ---- the move, of the inflow x and the old figures y
-  pub more-routed : (H W : ℕ) → AtLeast (routed H W x y) (routed H W x* y*)
-  unfolding routed routedDischarge routedVariance oldVariancePart inflowVariancePart blended
-  more-routed H W = record { discharge = mean-order refl (q .discharge) (p .discharge); variance = rw (p .variance, q .variance) }
+pub more-outflow :
+    {old old* new new* : Figures} → AtLeast old old* → AtLeast new new* → AtLeast (oldAndNewOutflow old new) (oldAndNewOutflow old* new*)
+unfolding oldAndNewOutflow
+more-outflow p q = more-joined (more-old-outflow p) q
 
 pub more-reach-inflow : {above above* : Figures} → AtLeast above above* → AtLeast (reachInflow above) (reachInflow above*)
 unfolding reachInflow
 more-reach-inflow p = record { discharge = quotient-order 2 (p .discharge); variance = p .variance }
+
+-- ---- the move
+
+pub more-routed :
+    (H W : ℕ) {inflow inflow* old old* : Figures}
+    → AtLeast inflow inflow*
+    → AtLeast old old*
+    → AtLeast (routed H W inflow old) (routed H W inflow* old*)
+unfolding routed routedDischarge routedVariance oldVariancePart inflowVariancePart blended
+more-routed H W p q = record { discharge = mean-order refl (q .discharge) (p .discharge); variance = rw (p .variance, q .variance) }
 
 -- ---- the correction
 

@@ -1,4 +1,5 @@
--- Two states with at least as much water in the second: a step on records with more rain keeps them so, and every lead of their forecasts is.
+-- Two states with at least as much water in the second: a step on records with more rain leaves two such states, and at every lead of their
+-- forecasts there is at least as much too.
 use Prim.Native.Nat.{ℕ, zero, suc, _+_, _≤_, _<_}
 use mathlib.Core.List.{List}
 use mathlib.Core.Path.{_≡_, refl, sym, ap, _∙_}

@@ -29,7 +29,7 @@ more-stored :
     → AtLeast old old*
     → AtLeast (stored H e o inflow old) (stored H e o* inflow* old*)
 unfolding stored moved
-more-stored H e {o* = o*} same p q = rw (same) (more-corrected-by o* (more-routed p q H (e .«system_noise» .0)))
+more-stored H e {o* = o*} same p q = rw (same) (more-corrected-by o* (more-routed H (e .«system_noise» .0) p q))
 
 module _
     (t : TableValues) (own own* : ℕ → Figures) (o o* : ℕ → Observation) (old old* : ℕ → Figures)

@@ -1,1 +1,1 @@
-// Two storms, the second with at least the rain of the first: definitions and the theorem.
+// Two storms, each rain of the second at least that of the first: definitions and the theorem.
