@@ -2,12 +2,17 @@
 use Prim.Native.Nat.{ℕ, _+_, _-_, _*_, _≤_, _<_}
 use mathlib.Core.List.{List}
 use mathlib.Core.Logic.{_≢_}
+use mathlib.Core.Path.{_≡_}
 use lib.ListN.{length, getD, set}
 use Rattle.sizes.specs.Sizes.{mostElements}
 use Rattle.units.specs.Units.{C, grains, thousandths}
 use Rattle.method.specs.declared.Figures.{Figures}
 use Rattle.method.specs.Figures.{FiguresFit}
 use Rattle.method.specs.Inflow.{joinedInflow}
+
+-- a space with nothing in it
+pub record Empty (space : List ℕ) : Type 0 where
+  pub at : (k : ℕ) → getD space k 0 ≡ 0
 
 -- four numbers at place p of an answer, and those of an element put there
 unfoldable pub figuresAt : List ℕ → ℕ → Figures

@@ -6,7 +6,7 @@ ghost use lib.Seq.{paste};
 ghost use Rattle.sizes.specs.Sizes.{mostElements};
 ghost use Rattle.method.specs.Figures.{FiguresFit};
 ghost use Rattle.method.specs.Inflow.{joinedInflow};
-ghost use Rattle.answer_space.specs.Places.{figuresAt, put, putAndAdded, mostSum, FiguresBelow, PlacesReady};
+ghost use Rattle.answer_space.specs.Places.{figuresAt, put, putAndAdded, mostSum, FiguresBelow, PlacesReady, Empty};
 use method::Figures;
 use units::Discharge;
 use units::Variance;
@@ -76,6 +76,16 @@ pub fn put_and_add(numbers: &mut [u64], here: usize, below: usize, f: Figures)
 {
     put_figures(&mut *numbers, here, f);
     add_figures(numbers, below, f);
+}
+
+// Every number of a space is 0.
+pub fn clear(space: &mut [u64])
+    ensures { λ _. ⌜ Empty (now (space .exit)) ⌝ }
+{
+    let n = space.len();
+    for k in 0..n {
+        space[k] = 0;
+    }
 }
 
 // The answer's numbers, copied into the lent space.

@@ -1,9 +1,11 @@
 -- Laws of the weights of an accepted table's elements.
-use Prim.Native.Nat.{ℕ, _≤_}
-use mathlib.Core.List.{List, []}
+use Prim.Native.Nat.{ℕ, _≤_, _<_}
+use mathlib.Core.List.{List}
 use mathlib.Core.Logic.{_≢_}
 use mathlib.Core.Path.{_≡_, refl, _∙_}
 use native.Mathlib.Omega.{arith}
+use lib.ListN.{getD}
+use Rattle.units.specs.Units.{S}
 use Rattle.weighting.specs.Weight.{weight}
 use Rattle.elements.specs.declared.Element.{Element}
 use Rattle.elements.specs.Elements.{elementAt}
@@ -14,6 +16,7 @@ use Rattle.table.specs.InUse.{tableIn}
 use Rattle.table.proofs.InUseLaws.{element-read}
 use Rattle.table.proofs.HeldLaws.{element-bounds}
 use Rattle.network.specs.Step.{weightOf}
+use Rattle.network.proofs.StepLaws.{weight-of-most}
 use Rattle.element_weights.specs.Weights.{ElementKnown, WeightsHeld}
 
 -- an element in use, as it is read from the bytes
@@ -48,6 +51,11 @@ module _ (bytes : List ℕ) (i : ℕ) {step lag : ℕ} (known : ElementKnown byt
       small : e .kind ≢ dam → ⊥
       small n = omega (arith, z, read, known .table .bounds .stepLeast, element-bounds bytes (known .table) (known .used) .lag n .0)
 
--- no weight is kept
-pub none-held : (t : TableValues) → WeightsHeld t []
-none-held t = record { at = λ i used there. absurd (omega arith) }
+-- a weight that is read out of them
+pub weight-held :
+    {t : TableValues} {weight : List ℕ}
+    → WeightsHeld t weight
+    → (i : ℕ)
+    → i < t .elements
+    → (getD weight i 0 ≡ weightOf t i) × (getD weight i 0 ≤ S)
+weight-held {t} h i used = (h .at i used, rw (h .at i used) (weight-of-most t i))

@@ -1,5 +1,5 @@
--- Serves the code: the weights of an accepted table's elements, kept in lent numbers for many steps, or none of them.
-use Prim.Native.Nat.{ℕ, _<_}
+-- Serves the code: the weights of an accepted table's elements in lent numbers.
+use Prim.Native.Nat.{ℕ, _≤_, _<_}
 use mathlib.Core.List.{List}
 use mathlib.Core.Path.{_≡_}
 use lib.ListN.{length, getD}
@@ -15,9 +15,10 @@ pub record Weighable (bytes : List ℕ) (T n : ℕ) : Type 0 where
   pub step : T ≡ tableIn bytes .step
   pub elements : n ≡ tableIn bytes .elements
 
--- as many weights as there are stand for the elements in order
+-- the weights of all elements stand in order
 pub record WeightsHeld (t : TableValues) (weight : List ℕ) : Type 0 where
-  pub at : (i : ℕ) → i < t .elements → i < length weight → getD weight i 0 ≡ weightOf t i
+  pub room : t .elements ≤ length weight
+  pub at : (i : ℕ) → i < t .elements → getD weight i 0 ≡ weightOf t i
 
 -- an element in use
 pub record ElementKnown (bytes : List ℕ) (T i : ℕ) : Type 0 where
@@ -25,11 +26,7 @@ pub record ElementKnown (bytes : List ℕ) (T i : ℕ) : Type 0 where
   pub step : T ≡ tableIn bytes .step
   pub used : i < tableIn bytes .elements
 
-pub record WeightReady (bytes : List ℕ) (T : ℕ) (weight : List ℕ) (i : ℕ) : Type 0 where
-  pub element : ElementKnown bytes T i
-  pub weights : WeightsHeld (tableIn bytes) weight
-
--- the counts of an accepted table, and weights of its elements
+-- the counts of an accepted table, and the weights of its elements
 pub record Weighed (bytes : List ℕ) (counts : Counts) (weight : List ℕ) : Type 0 where
   pub counted : Counted bytes counts
   pub weights : WeightsHeld (tableIn bytes) weight

@@ -1,11 +1,12 @@
-// The weights of an accepted table's elements: worked out once for many steps in lent numbers, or where an element is read.
+// The weights of an accepted table's elements: worked out in lent numbers before the elements are, so that the series of several elements go
+// on at the same time; the program keeps them for all its steps.
 ghost use mathlib.Core.Path.{_≡_};
 ghost use Prim.Native.Nat.{_≤_};
 ghost use lib.ListN.{length};
 ghost use Rattle.units.specs.Units.{S};
 ghost use Rattle.table.specs.InUse.{tableIn};
 ghost use Rattle.network.specs.Step.{weightOf};
-ghost use Rattle.element_weights.specs.Weights.{Weighable, ElementKnown, WeightsHeld, WeightReady};
+ghost use Rattle.element_weights.specs.Weights.{Weighable, ElementKnown, WeightsHeld};
 use elements::lag_at;
 use weighting::weight::series_weight;
 
@@ -29,15 +30,4 @@ pub fn put_weights(table: &[u8], step: u64, n: usize, weights: &mut [u64])
     for i in 0..n {
         weights[i] = work_weight(table, step, i);
     }
-}
-
-// The weight of element i, counted from 0: as it stands in lent numbers, or worked out where they do not have it.
-pub fn weight_of(table: &[u8], step: u64, weights: &[u64], i: usize) -> u64
-    requires { ⌜ WeightReady (now table) step (now weights) i ⌝ }
-    ensures { λ r. ⌜ (r ≡ weightOf (tableIn (now (table .entry))) i) × (r ≤ S) ⌝ }
-{
-    if i < weights.len() {
-        return weights[i];
-    }
-    work_weight(table, step, i)
 }

@@ -51,7 +51,7 @@ made-element : (e : Element) (weight count : ℕ) (s : State) (i : ℕ) (c : Ele
 unfolding leadInput
 made-element e weight count s i c h = ap (λ (x : ElementInput). x .element) h
 
-module _ {bytes : List ℕ} {n L T : ℕ} {weight : List ℕ} {s : State} (g : Given bytes n L T weight s) where
+module _ {bytes : List ℕ} {n L : ℕ} {weight : List ℕ} {s : State} (g : Given bytes n L weight s) where
   abbrev t : TableValues
   t = tableIn bytes
 

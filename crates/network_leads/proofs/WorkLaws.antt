@@ -17,20 +17,20 @@ use Rattle.refusal.proofs.RuleLaws.{not-both}
 use Rattle.units.specs.Ceiling.{underCeiling}
 use Rattle.units.proofs.UnderLaws.{Under, under-accepted, refused-whole}
 use Rattle.method.specs.declared.Figures.{Figures}
-use Rattle.method.specs.Inflow.{noInflow}
 use Rattle.table.specs.Tables.{TableValues}
 use Rattle.state.specs.States.{State}
 use Rattle.walk.specs.Space.{Later}
 use Rattle.network.specs.Step.{networkDown, noObservation}
 use Rattle.network.specs.Forecast.{leadFigures, leadNumbers}
 use Rattle.network.proofs.NumbersLaws.{leadOwn, numbersAt, figures-again, lead-part, lead-whole}
-use Rattle.answer_space.specs.Places.{figuresAt, put, mostSumBefore, FiguresBelow}
+use Rattle.answer_space.specs.Places.{figuresAt, put, mostSumBefore, FiguresBelow, Empty}
+use Rattle.answer_space.proofs.EmptyLaws.{none-at}
 use Rattle.answer_space.proofs.PlacesLaws.{put-here, put-other, same-lead}
 use Rattle.one_lead.specs.declared.ElementInput.{ElementInput}
 use Rattle.lead_walk.specs.Leads.{numbersAfter}
 use Rattle.lead_walk.specs.Worked.{Apart, drainedAt, LeadsDone}
 use Rattle.lead_walk.proofs.NetworkLaws.{Walked, InputOf, walked-begin, walked-at, walked-small, element-under, walked-again}
-use Rattle.network_leads.specs.Worked.{Empty, LeadsWorked}
+use Rattle.network_leads.specs.Worked.{LeadsWorked}
 
 -- ---- places of w = leads + 1 leads an element
 
@@ -67,13 +67,9 @@ module _ (t : TableValues) (s : State) (leads : ℕ) where
     pub walked : LeadsWalked i space
     pub first : (k : ℕ) → k < j → figuresAt space ((k + 1) * w) ≡ leadFigures t s 0 k
 
-  nothing-at : (space : List ℕ) → Empty space → (p : ℕ) → figuresAt space p ≡ noInflow
-  unfolding figuresAt noInflow
-  nothing-at space e p = rw (e .at (4 * p), e .at (4 * p + 1), e .at (4 * p + 2), e .at (4 * p + 3))
-
   pub worked-begin : (space : List ℕ) → Empty space → Worked 0 0 space
   worked-begin space e =
-      record { walked = walked-begin t _ _ _ w 1 leads space (nothing-at space e); first = λ k l. absurd (omega arith) }
+      record { walked = walked-begin t _ _ _ w 1 leads space (none-at e); first = λ k l. absurd (omega arith) }
 
   -- lead 0 of one element disturbs no other place
   lead-apart : (k i l : ℕ) → l < leads → k * w + 1 + l ≢ i * w

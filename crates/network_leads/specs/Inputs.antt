@@ -1,8 +1,11 @@
 -- Serves the code: what the leads of one element are worked out from.
 use Prim.Native.Nat.{ℕ, _≤_, _<_}
 use mathlib.Core.List.{List}
+use mathlib.Core.Path.{_≡_}
+use lib.ListN.{length}
 use Rattle.method.specs.Inflow.{meanRainInflow}
 use Rattle.elements.specs.declared.Element.{Element}
+use Rattle.elements.specs.Elements.{elementAt}
 use Rattle.elements.specs.Kinds.{byKind}
 use Rattle.table.specs.Bounds.{AcceptedTable}
 use Rattle.table.specs.InUse.{tableIn}
@@ -12,10 +15,12 @@ use Rattle.state.specs.Bounds.{StateBounds}
 use Rattle.one_lead.specs.declared.ElementInput.{ElementInput}
 use Rattle.network.specs.Forecast.{rainSum}
 
--- what the code of it relies on, of an element and a count of rains
-pub record InputReady (bytes : List ℕ) (s : State) (i count : ℕ) : Type 0 where
+-- what the code of it relies on, of an element, its kind, numbers with its weight, and a count of rains
+pub record InputReady (bytes : List ℕ) (s : State) (i kind : ℕ) (weight : List ℕ) (count : ℕ) : Type 0 where
   pub table : AcceptedTable bytes
   pub used : i < tableIn bytes .elements
+  pub is : kind ≡ elementAt bytes i .kind
+  pub weighed : i < length weight
   pub state : StateBounds (tableIn bytes) s
   pub few : count ≤ 3
 

@@ -3,7 +3,7 @@
 use Prim.Native.Nat.{ℕ, _+_, _*_, _≤_, _<_}
 use mathlib.Core.List.{List}
 use mathlib.Core.Path.{_≡_}
-use lib.ListN.{length, getD}
+use lib.ListN.{length}
 use Rattle.refusal.specs.Verdicts.{verdictAnswer}
 use Rattle.refusal.specs.declared.Verdict.{Verdict}
 use Rattle.refusal.specs.declared.Verdict.the-variants.{Accepted}
@@ -15,14 +15,13 @@ use Rattle.state.specs.States.{State}
 use Rattle.state.specs.Bounds.{StateBounds}
 use Rattle.element_weights.specs.Weights.{WeightsHeld}
 use Rattle.network.specs.Forecast.{leadFigures, leadNumbers}
-use Rattle.answer_space.specs.Places.{figuresAt}
+use Rattle.answer_space.specs.Places.{figuresAt, Empty}
 
--- N, L and T of an accepted table, weights of its elements, and a state that rule 8 accepts
-pub record Given (bytes : List ℕ) (n L T : ℕ) (weight : List ℕ) (s : State) : Type 0 where
+-- N and L of an accepted table, the weights of its elements, and a state that rule 8 accepts
+pub record Given (bytes : List ℕ) (n L : ℕ) (weight : List ℕ) (s : State) : Type 0 where
   pub table : AcceptedTable bytes
   pub elements : n ≡ tableIn bytes .elements
   pub leads : L ≡ tableIn bytes .leads
-  pub step : T ≡ tableIn bytes .step
   pub weights : WeightsHeld (tableIn bytes) weight
   pub state : StateBounds (tableIn bytes) s
 
@@ -31,9 +30,6 @@ abbrev pub spaceSize : TableValues → ℕ
 spaceSize t = 4 * (t .elements + 1) * (t .leads + 1)
 
 -- a space with nothing in it, and with room
-pub record Empty (space : List ℕ) : Type 0 where
-  pub at : (k : ℕ) → getD space k 0 ≡ 0
-
 pub record Cleared (t : TableValues) (space : List ℕ) : Type 0 where
   pub room : spaceSize t ≤ length space
   pub empty : Empty space

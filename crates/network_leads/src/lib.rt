@@ -1,12 +1,12 @@
 // All elements through all leads of a forecast, in one space in which each place holds what drains into an element until its turn and its
 // figures from then on.
 ghost use mathlib.Core.Path.{_≡_};
+ghost use lib.ListN.{getD};
 ghost use Rattle.elements.specs.Elements.{elementAt};
 ghost use Rattle.table.specs.InUse.{tableIn};
 ghost use Rattle.network_leads.specs.Inputs.{InputReady, inputOf, leadInput};
 ghost use Rattle.network_leads.specs.Worked.{Given, Cleared, LeadsWorked};
 use answer_space::put_figures;
-use element_weights::weight_of;
 use elements::Element;
 use elements::element_at;
 use elements::kind_at;
@@ -35,50 +35,49 @@ fn input_of(element: Element, weight: u64, own: u64) -> ElementInput
     }
 }
 
-// The same of element i, counted from 0, of whose last rains there are `count`: only a basin's are read. A dam goes on letting out the
-// discharge that the state holds.
+// The same of element i, counted from 0, of this kind, of whose last rains there are `count`: only a basin's are read. A dam goes on letting
+// out the discharge that the state holds. (Its weight is read in the arms, where it takes the fewest instructions.)
 fn lead_input(
     table: &[u8],
     i: usize,
-    weight: u64,
+    kind: u64,
+    weights: &[u64],
     count: u64,
     state: &[u64; STATE_NUMBERS],
 ) -> ElementInput
-    requires { ⌜ InputReady (now table) (now state) i count ⌝ }
-    ensures { λ r. ⌜ r ≡ leadInput (elementAt (now (table .entry)) i) weight count (now (state .entry)) i ⌝ }
+    requires { ⌜ InputReady (now table) (now state) i kind (now weights) count ⌝ }
+    ensures { λ r. ⌜ r ≡ leadInput (elementAt (now (table .entry)) i) (getD (now (weights .entry)) i 0) count (now (state .entry)) i ⌝ }
 {
-    let kind = kind_at(table, i);
     match kind {
         elements::BASIN => {
             let sum = sum_of(state, i, count);
             let element = element_at(table, i);
             input_of(
                 element,
-                weight,
+                weights[i],
                 mean_rain_inflow(sum, count, element.area, element.runoff),
             )
         }
-        elements::REACH => input_of(element_at(table, i), weight, 0),
+        elements::REACH => input_of(element_at(table, i), weights[i], 0),
         elements::DAM => {
             let held = discharge_of(state, i);
-            input_of(element_at(table, i), weight, held.0)
+            input_of(element_at(table, i), weights[i], held.0)
         }
-        _ => input_of(element_at(table, i), weight, 0),
+        _ => input_of(element_at(table, i), weights[i], 0),
     }
 }
 
-// All n elements, each through all leads, in a space that has room for them and nothing in it: element number k at lead l at place
+// All n elements, each through all leads by its weight, in a space that has room for them and nothing in it: element number k at lead l at place
 // k * (leads + 1) + l. 16 where a number passes the ceiling.
 pub fn work_leads(
     table: &[u8],
     n: usize,
     leads: usize,
-    step: u64,
     weights: &[u64],
     state: &[u64; STATE_NUMBERS],
     space: &mut [u64],
 ) -> Verdict
-    requires { ⌜ Given (now table) n leads step (now weights) (now state) × Cleared (tableIn (now table)) (now space) ⌝ }
+    requires { ⌜ Given (now table) n leads (now weights) (now state) × Cleared (tableIn (now table)) (now space) ⌝ }
     ensures { λ r. ⌜ LeadsWorked r (now (space .exit)) (tableIn (now (table .entry))) (now (state .entry)) ⌝ }
 {
     let width = leads + 1;
@@ -89,7 +88,7 @@ pub fn work_leads(
         let own = (i + 1) * width;
         let here = own + 1;
         put_figures(&mut *space, own, first);
-        let input = lead_input(table, i, weight_of(table, step, weights, i), count, state);
+        let input = lead_input(table, i, kind_at(table, i), weights, count, state);
         let element = input.element;
         let below = element.down * width + 1;
         let Verdict::Accepted = work_element(input, first, here, below, leads, &mut *space) else {

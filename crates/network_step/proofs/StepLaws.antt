@@ -7,7 +7,7 @@ use mathlib.Core.Logic.{⊎-elim}
 use mathlib.Core.Path.{_≡_, refl, sym, ap, subst, _∙_}
 use native.Mathlib.Nat.{zero-mul}
 use native.Mathlib.Omega.{arith}
-use lib.ListN.{length, getD, replicate, length-replicate}
+use lib.ListN.{length, replicate, length-replicate}
 use Rattle.sizes.specs.Sizes.{mostElements}
 use Rattle.refusal.specs.Answers.{accepted}
 use Rattle.refusal.specs.declared.Refusal.the-variants.{AboveCeiling}
@@ -43,6 +43,7 @@ use Rattle.walk.specs.Space.{Later}
 use Rattle.network.specs.Step.{weightOf, networkDown, newFigures, networkNumbers, stepOwn, observedIn, stepFigures, stepNumbers}
 use Rattle.answer_space.specs.Places.{figuresAt, added, mostSumBefore, FiguresBelow}
 use Rattle.answer_space.proofs.PlacesLaws.{below-most}
+use Rattle.answer_space.proofs.EmptyLaws.{zeros-empty, none-at}
 use Rattle.one_lead.specs.declared.ElementInput.{ElementInput}
 use Rattle.one_lead.specs.Leads.{ownAtLead}
 use Rattle.one_lead.specs.Worked.{stepLead, LeadReady}
@@ -113,14 +114,8 @@ module _ (t : TableValues) where
   passed-few i h = (omega (arith, h .basins, basins-most t i), omega (arith, h .dams, dams-most t i))
 
 -- numbers that are all 0
-zero-at : (n k : ℕ) → _≡_ {A = ℕ} (getD (replicate n 0) k 0) 0
-zero-at zero k = refl
-zero-at (suc n) zero = refl
-zero-at (suc n) (suc k) = zero-at n k
-
 pub cleared : (n room : ℕ) → 4 * (n + 1) ≤ room → Cleared n (replicate room 0)
-unfolding figuresAt noInflow
-cleared n room l = record { room = rw length-replicate l; none = λ p. simp zero-at }
+cleared n room l = record { room = rw length-replicate l; none = none-at (zeros-empty room) }
 
 -- the old outflow of element i is added
 pub old-added :

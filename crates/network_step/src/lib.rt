@@ -8,7 +8,6 @@ ghost use Rattle.answer_space.specs.Places.{added};
 ghost use Rattle.network_step.specs.Inputs.{inputOf, stepInput, StepInputReady};
 ghost use Rattle.network_step.specs.Held.{StepReady, Cleared, OldReady, StepWorked};
 use answer_space::add_figures;
-use element_weights::weight_of;
 use elements::Element;
 use elements::down_at;
 use elements::element_at;
@@ -131,9 +130,8 @@ pub fn work_step(
     for i in 0..n {
         let here = gauge_here(table, n, counts.gauges, g, i);
         let observation = observation_here(observed, here, g);
-        let weight = weight_of(table, counts.step, weights, i);
         add_old_outflow(table, i, state, &mut *space);
-        let taken = step_input(table, i, weight, bytes, basins, passed, observation);
+        let taken = step_input(table, i, weights[i], bytes, basins, passed, observation);
         let input = taken.input;
         let element = input.element;
         let first = figures_of(state, i);

@@ -62,8 +62,11 @@ same-length c = search needs
 returns : tie.Need-returns Inv-loop μ-loop
 returns c =
     let l = c .before .loop in
-    let n = c .before .before .before .before .pre .0 .elements in
-    record { at = λ k used there. l .inv .1 .1 k (omega (arith, n)) }
+    let p = c .before .before .before .before .pre in
+    record {
+      room = omega (arith, p .0 .elements, p .1, l .inv .1 .0);
+      at = λ k used. l .inv .1 .1 k (omega (arith, p .0 .elements));
+    }
 
 pub put-weights-spec : {M : Type 1} → statement M
 put-weights-spec =

@@ -3,10 +3,12 @@ use Prim.Native.Nat.{_+_, _*_, _≤_, _<_, _-_}
 use mathlib.Core.Path.{_≡_, refl}
 use borrow.Author.Needs.{needs}
 use native.Mathlib.Omega.{arith}
-use lib.ListN.{length}
+use lib.ListN.{length, getD}
 use Rattle.sizes.specs.Sizes.{mostElements, forecastSpace}
 use Rattle.table.specs.InUse.{tableIn}
 use Rattle.table.specs.Tables.{TableValues}
+use Rattle.table.proofs.HeldLaws.{element-there}
+use Rattle.element_weights.proofs.WeightsLaws.{weight-held}
 use Rattle.network_leads.specs.Worked.{spaceSize}
 use Rattle.network_leads.proofs.WorkLaws.{Worked, worked-begin, worked-accepted}
 use Rattle.network_leads.proofs.TurnLaws.{few-leads, place-fits, next-fits, Turn, places-there, below-most, turn-ready, turn-refused, turn-again}
@@ -14,10 +16,10 @@ use Rattle.network_leads.proofs.work_leads.Statement.{statement}
 use Rattle.network_leads.proofs.work_leads.Tie as tie
 
 abbrev Inv-loop : tie.InvT-loop
-Inv-loop table n leads step weights state space₀ width steps count i₀ space i = (i ≤ n) × ((length space ≡ length space₀) × Worked (tableIn table) state leads i i space)
+Inv-loop table n leads weights state space₀ width steps count i₀ space i = (i ≤ n) × ((length space ≡ length space₀) × Worked (tableIn table) state leads i i space)
 
 abbrev μ-loop : tie.MeasureT-loop
-μ-loop table n leads step weights state space₀ width steps count i₀ space i = n - i
+μ-loop table n leads weights state space₀ width steps count i₀ space i = n - i
 
 abbrev start : tie.In-loop Inv-loop μ-loop → tie.Start Inv-loop μ-loop
 start c = c .before .before .before .before .before .before .before
@@ -53,7 +55,7 @@ made c = c .before .before .before .before
 turned :
     (a : tie.After-lead-input Inv-loop μ-loop)
     → Turn (start (turn (placed a)) .pre .0) (turn (placed a) .before .loop .i) (turn (placed a) .before .loop .space)
-    (placed a .before .before .figures-of .result) (placed a .put-figures .last .0) (a .before .weight-of .result)
+    (placed a .before .before .figures-of .result) (placed a .put-figures .last .0) (getD (start (turn (placed a)) .args .weights .now) (turn (placed a) .before .loop .i) 0)
     (turn (placed a) .before .before .rain-count .result) (a .lead-input .result)
 turned a =
     let p = placed a in
@@ -64,7 +66,7 @@ turned a =
       worked = l .before .loop .inv .1 .1;
       first = p .before .before .figures-of .ensures;
       placed = p .put-figures .ensures;
-      weighed = a .before .weight-of .ensures;
+      weighed = weight-held (start l .pre .0 .weights) _ (used l);
       few = l .before .before .rain-count .ensures .0;
       made = a .lead-input .ensures;
     }
@@ -106,17 +108,22 @@ put-figures-requires : tie.Need-put-figures-requires Inv-loop μ-loop
 put-figures-requires c κs =
     omega (arith, own-there (c .before .before))
 
-weight-of-requires : tie.Need-weight-of-requires Inv-loop μ-loop
-weight-of-requires c κs =
-    let l = turn (c .before .before) in
-    let g = start l .pre .0 in
-    record { element = record { table = g .table; step = g .step; used = used l }; weights = g .weights }
+kind-at-requires : tie.Need-kind-at-requires Inv-loop μ-loop
+kind-at-requires c κs =
+    let l = turn (c .before .before) in element-there _ (start l .pre .0 .table) (used l)
 
 lead-input-requires : tie.Need-lead-input-requires Inv-loop μ-loop
 lead-input-requires c κs =
     let l = turn (c .before .before .before) in
     let g = start l .pre .0 in
-    record { table = g .table; used = used l; state = g .state; few = l .before .before .rain-count .ensures .1 }
+    record {
+      table = g .table;
+      used = used l;
+      is = c .kind-at .ensures;
+      weighed = omega (arith, used l, g .weights .room);
+      state = g .state;
+      few = l .before .before .rain-count .ensures .1;
+    }
 
 mul-below : tie.Need-mul-below Inv-loop μ-loop
 mul-below c = place-fits _ (below (c .before .before))
@@ -197,7 +204,7 @@ work-leads-spec =
     mul-own
     add-here
     put-figures-requires
-    weight-of-requires
+    kind-at-requires
     lead-input-requires
     mul-below
     add-below

@@ -3,8 +3,9 @@ use Prim.Native.Nat.{_+_, _≤_, _<_, _-_}
 use mathlib.Core.Path.{_≡_, refl, ap, _∙_}
 use borrow.Author.Needs.{needs}
 use native.Mathlib.Omega.{arith}
-use lib.ListN.{length}
+use lib.ListN.{length, getD}
 use Rattle.sizes.specs.Sizes.{mostElements}
+use Rattle.units.specs.Units.{S}
 use Rattle.elements.specs.declared.Element.{Element}
 use Rattle.elements.specs.Elements.{elementAt}
 use Rattle.table.specs.InUse.{tableIn}
@@ -14,6 +15,8 @@ use Rattle.record.specs.Records.{inputObservation}
 use Rattle.record.specs.GaugeOrder.{gaugesBefore}
 use Rattle.record.proofs.RecordLaws.{kind-read}
 use Rattle.record.proofs.GaugeOrderLaws.{gauges-none, gauges-more, gauges-most, here-used, observation-found}
+use Rattle.network.specs.Step.{weightOf}
+use Rattle.element_weights.proofs.WeightsLaws.{weight-held}
 use Rattle.answer_space.specs.Places.{mostSumBefore}
 use Rattle.one_lead.specs.Worked.{stepLead, LeadReady}
 use Rattle.one_lead.proofs.LeadLaws.{new-ready}
@@ -62,15 +65,19 @@ seen c =
     c .observation-here .ensures
     ∙ observation-found _ (p .accepts .bounds) _ (p .held) _ (l .before .loop .inv .1 .1 .1 .0) (c .before .gauge-here .ensures .0)
 
+-- its weight
+weighed :
+    (c : tie.In-loop Inv-loop μ-loop)
+    → let w = getD (start c .args .weights .now) (c .before .loop .i) 0 in
+    (w ≡ weightOf (tableIn (start c .args .table .now)) (c .before .loop .i)) × (w ≤ S)
+weighed c = weight-held (start c .pre .0 .weights) _ (used c)
+
 -- its turn, from later points
 abbrev old-point : tie.After-step-input Inv-loop μ-loop → tie.After-add-old-outflow Inv-loop μ-loop
-old-point c = c .before .before .before
-
-abbrev weight-point : tie.After-step-input Inv-loop μ-loop → tie.After-weight-of Inv-loop μ-loop
-weight-point c = old-point c .before .before
+old-point c = c .before .before .before .before
 
 abbrev observation-point : tie.After-step-input Inv-loop μ-loop → tie.After-observation-here Inv-loop μ-loop
-observation-point c = weight-point c .before
+observation-point c = old-point c .before .before
 
 abbrev turn : tie.After-step-input Inv-loop μ-loop → tie.In-loop Inv-loop μ-loop
 turn c = observation-point c .before .before
@@ -107,7 +114,7 @@ ready c =
     let i = input-point c in
     let l = turn i in
     let p = start l .pre in
-    let w = weight-point i .weight-of .ensures in
+    let w = weighed l in
     let inv = l .before .loop .inv .1 in
     step-ready _ _ _ _ (used l) (w .0) (p .0 .counted) (counted l) (seen (observation-point i)) _ (p .0 .accepts) (p .0 .kept) (p .0 .state) (w .1)
     (ap (λ (x : StepInput). x .input) (i .step-input .ensures)) (c .before .figures-of .ensures) (inv .1 .1 .1)
@@ -130,18 +137,19 @@ observation-here-requires c κs =
     let l = c .before in
     λ e. omega (arith, here-used _ _ _ (c .gauge-here .ensures .0) e, start l .pre .0 .room)
 
-weight-of-requires : tie.Need-weight-of-requires Inv-loop μ-loop
-weight-of-requires c κs =
-    let l = c .before .before in
-    let p = start l .pre .0 in
-    record { element = record { table = p .accepts; step = header l .step; used = used l }; weights = p .weights }
-
 add-old-outflow-requires : tie.Need-add-old-outflow-requires Inv-loop μ-loop
 add-old-outflow-requires c κs =
-    let l = c .before .before .before .before in
+    let l = c .before .before .before in
     let p = start l .pre in
     let inv = l .before .loop .inv .1 in
     old-outflow-ready _ _ _ _ _ (p .0 .accepts) (p .0 .state) (used l) (inv .1 .1 .1) (omega (arith, p .1 .room, inv .0))
+
+mul-step-input : tie.Need-mul-step-input Inv-loop μ-loop
+mul-step-input c = omega (arith, within (c .before .before .before .before .before .before))
+
+shared-slice-read-step-input : tie.Need-shared-slice-read-step-input Inv-loop μ-loop
+shared-slice-read-step-input c =
+    let l = c .before .before .before .before .before .before .before in omega (arith, used l, start l .pre .0 .weights .room)
 
 step-input-requires : tie.Need-step-input-requires Inv-loop μ-loop
 step-input-requires c κs =
@@ -186,7 +194,7 @@ returns c =
     let e = c .before .before .before .before in
     let i = input-point (e .before) in
     let l = turn i in
-    stepping-refused _ _ _ _ (used l) (weight-point i .weight-of .ensures .0) (start l .pre .0 .counted) (counted l) (seen (observation-point i)) _ (l .before .loop .inv .1 .1 .1 .1)
+    stepping-refused _ _ _ _ (used l) (weighed l .0) (start l .pre .0 .counted) (counted l) (seen (observation-point i)) _ (l .before .loop .inv .1 .1 .1 .1)
     _ (ap (λ (x : StepInput). x .input) (i .step-input .ensures)) _ (e .before .before .figures-of .ensures)
     (work-step-refused _ _ _ _ _ _ _ (lead-zero i) (ready (e .before)) (old-added _ _ _ _ (element-taken i) (e .before .before .figures-of .ensures) (old-point i .add-old-outflow .ensures)) _ (e .work-step .ensures) (c .enum-told2 .given .1))
 
@@ -220,7 +228,7 @@ loop-again c =
           passed-on i,
           (
             gauges-more _ _ (inv .1 .1 .0) (g .gauge-here .ensures .0),
-            stepping-again _ _ _ _ (used l) (weight-point i .weight-of .ensures .0) (p .counted) (counted l) (seen (observation-point i)) _ (inv .1 .1 .1)
+            stepping-again _ _ _ _ (used l) (weighed l .0) (p .counted) (counted l) (seen (observation-point i)) _ (inv .1 .1 .1)
                 _ (ap (λ (x : StepInput). x .input) (i .step-input .ensures)) _ (e .before .before .figures-of .ensures) _ (ap (λ (x : Element). x .down) (element-taken i))
                 (work-step-done _ _ _ _ _ _ _ (lead-zero i) (ready (e .before)) (old-added _ _ _ _ (element-taken i) (e .before .before .figures-of .ensures) (old-point i .add-old-outflow .ensures)) _ (e .work-step .ensures) (c .before .enum-told .given .1))
                 (element-bounds _ (p .accepts) (used l) .later),
@@ -246,8 +254,9 @@ work-step-spec =
     loop-holds
     gauge-here-requires
     observation-here-requires
-    weight-of-requires
     add-old-outflow-requires
+    mul-step-input
+    shared-slice-read-step-input
     step-input-requires
     figures-of-requires
     add-work-step

@@ -5,9 +5,9 @@ use borrow.Author.Needs.{needs}
 use native.Mathlib.Omega.{arith}
 use lib.ListN.{length, length-set, getD}
 use Rattle.fields.proofs.PlacesLaws.{filled-more}
-use Rattle.leads.proofs.AnswerLaws.{all-empty}
-use Rattle.leads.proofs.clear.Statement.{statement}
-use Rattle.leads.proofs.clear.Tie as tie
+use Rattle.answer_space.proofs.EmptyLaws.{all-empty}
+use Rattle.answer_space.proofs.clear.Statement.{statement}
+use Rattle.answer_space.proofs.clear.Tie as tie
 
 abbrev Inv-loop : tie.InvT-loop
 Inv-loop space₀ n k₀ space k = (k ≤ n) × ((length space ≡ n) × ((j : ℕ) → j < k → getD space j 0 ≡ 0))
