@@ -1,23 +1,25 @@
--- Laws of a step by a record: its rules in checking order after rule 8, and the state that it leaves.
+-- Laws of a step or a trial by a record: its rules in checking order after rule 8, and the state that a step leaves.
 use Prim.{Unit}
-use Prim.Native.Nat.{ℕ, _*_, _≤_}
+use Prim.Native.Nat.{ℕ, _+_, _*_, _≤_, _<_}
 use mathlib.Core.Bool.{Bool, true, false}
 use mathlib.Core.List.{List}
 use mathlib.Core.Path.{_≡_, refl, sym, ap, _∙_}
+use borrow.Author.Tests.{le-leb, lt-leb}
 use native.Mathlib.Omega.{arith}
 use lib.ListN.{length, replicate, length-replicate}
-use Rattle.sizes.specs.Sizes.{smallElements, smallObservedNumbers, observedNumbers, stateNumbers}
+use Rattle.sizes.specs.Sizes.{stateNumbers}
 use Rattle.refusal.specs.Refusals.{number}
-use Rattle.refusal.specs.Answers.{accepted, refused}
-use Rattle.refusal.proofs.RuleLaws.{not-both}
+use Rattle.refusal.specs.Answers.{andThen, accepted, refused}
+use Rattle.refusal.proofs.RuleLaws.{not-both, rule-then}
 use Rattle.refusal.specs.declared.Refusal.{Refusal}
-use Rattle.refusal.specs.declared.Refusal.the-variants.{StepLimit}
+use Rattle.refusal.specs.declared.Refusal.the-variants.{StepLimit, AnswerSpace}
 use Rattle.refusal.specs.declared.Verdict.{Verdict}
 use Rattle.refusal.specs.declared.Verdict.the-variants.{Accepted, Refused}
 use Rattle.refusal.specs.Verdicts.{verdictAnswer}
 use Rattle.table.specs.declared.Counts.{Counts}
 use Rattle.table.specs.Tables.{TableValues}
-use Rattle.table.specs.Bounds.{Counted}
+use Rattle.table.specs.Bounds.{AcceptedTable, Counted}
+use Rattle.table.specs.KindCounts.{basinCount}
 use Rattle.table.specs.InUse.{tableIn}
 use Rattle.record.specs.Records.{inputAt}
 use Rattle.record.specs.Rules.{recordRules}
@@ -29,12 +31,15 @@ use Rattle.state.specs.Answers.{Answered}
 use Rattle.state.proofs.AnswerLaws.{answered-accepted, answered-refused}
 use Rattle.state.proofs.BoundsLaws.{state-bounds}
 use Rattle.network.specs.Step.{stepped}
-use Rattle.network_step.specs.Held.{StepReady, underVerdict, StepWorked}
+use Rattle.element_weights.specs.Weights.{WeightsHeld}
+use Rattle.network_step.specs.Held.{StepReady, Cleared, underVerdict, StepWorked}
+use Rattle.network_step.proofs.StepLaws.{cleared}
 use Rattle.entries.specs.Entries.{stepRules, stepOnAnswer}
+use Rattle.entries.specs.Trials.{trialSpaceFits}
 use Rattle.entries.proofs.StepRuleLaws as step-rules
-use Rattle.record_step.specs.Judged.{JudgeReady, StepJudged, RecordGiven, RecordWorked}
+use Rattle.record_step.specs.Judged.{RiverGiven, JudgeReady, StepJudged, workedAnswer, RecordGiven, RecordWorked}
 
--- ---- the rules before 16
+-- ---- the rules before 15 and 16
 
 module _ (t : TableValues) (bytes : List ℕ) (s : State) (h : stateFits t s ≡ true) (whole : length s ≡ stateNumbers) {observed : List ℕ} where
   -- 9
@@ -56,95 +61,143 @@ module _ (t : TableValues) (bytes : List ℕ) (s : State) (h : stateFits t s ≡
       kept : v ≡ Accepted → recordRules {A = Unit} t bytes (accepted tt) ≡ accepted tt
       kept e = sym (r .decided) ∙ ap verdictAnswer e
 
+-- ---- all rules, whatever the answer holds
+
+module _ {A : Type 0} (t : TableValues) (bytes : List ℕ) (s : State) (lent : ℕ) (a : A) where
+  worked-then : andThen (workedAnswer {A = Unit} t bytes s lent tt) (λ _. accepted a) ≡ workedAnswer t bytes s lent a
+  unfolding workedAnswer
+  worked-then = simp (step-rules.and-then, rule-then, step-rules.under-then)
+
+  pub worked-accepted : workedAnswer {A = Unit} t bytes s lent tt ≡ accepted tt → workedAnswer t bytes s lent a ≡ accepted a
+  worked-accepted h = rw (← worked-then, h)
+
+  pub worked-refused : {k : ℕ} → workedAnswer {A = Unit} t bytes s lent tt ≡ refused k → workedAnswer t bytes s lent a ≡ refused k
+  worked-refused h = rw (← worked-then, h)
+
 none-passes : (under : Bool) → underVerdict under ≡ Accepted → under ≡ true
 unfolding underVerdict
 none-passes true e = refl
 none-passes false e = absurd (not-both (ap verdictAnswer e) refl)
 
--- what the verdict says of them
+-- what the verdict before 15 and 16 says of them
 module _ (t : TableValues) (bytes : List ℕ) (s : State) {v : Verdict} {observed : List ℕ} (h : StepJudged t bytes s v observed) where
-  pub judged-accepted : v ≡ Accepted → stepRules {A = Unit} t bytes s (accepted tt) ≡ accepted tt
-  judged-accepted e = sym (h .decided) ∙ ap verdictAnswer e
-
-  pub judged-refused : {k : Refusal} → v ≡ Refused k → stepRules {A = Unit} t bytes s (accepted tt) ≡ refused (number k)
-  judged-refused e = sym (h .decided) ∙ ap verdictAnswer e
-
-  -- ---- all rules
-
-  -- a refusal before 16
-  pub refused-before : {k : Refusal} {space : List ℕ} → v ≡ Refused k → RecordWorked v space t bytes s
+  -- a refusal before them
+  pub refused-before : {lent : ℕ} {k : Refusal} {space : List ℕ} → v ≡ Refused k → RecordWorked v space t bytes s lent
+  unfolding workedAnswer
   refused-before e =
       record {
-        decided = ap verdictAnswer e ∙ sym (step-rules.step-refused t bytes s _ (judged-refused e));
+        decided = ap verdictAnswer e ∙ sym (step-rules.step-refused t bytes s _ (sym (h .decided) ∙ ap verdictAnswer e));
         kept = λ a. absurd (not-both (ap verdictAnswer a) (ap verdictAnswer e));
+        enough = λ a. absurd (not-both (ap verdictAnswer a) (ap verdictAnswer e));
         held = λ a. absurd (not-both (ap verdictAnswer a) (ap verdictAnswer e));
+        whole = h .whole;
       }
 
-  -- and 16
-  pub after-judged :
-      {under : Bool} {space : List ℕ} (answer : Bool)
-      → v ≡ Accepted
-      → StepWorked under space t bytes s
-      → under ≡ answer
-      → RecordWorked (underVerdict answer) space t bytes s
-  after-judged answer e w f =
-      record {
-        decided =
-            ap (λ (u : Bool). verdictAnswer (underVerdict u)) (sym f)
-            ∙ (w .decided ∙ sym (step-rules.step-accepted t bytes s _ (judged-accepted e)));
-        kept = λ _. h .kept e;
-        held = λ a. w .held (f ∙ none-passes answer a);
-      }
+  module _ (accepts : v ≡ Accepted) where
+    judged : stepRules {A = Unit} t bytes s (accepted tt) ≡ accepted tt
+    judged = sym (h .decided) ∙ ap verdictAnswer accepts
+
+    -- 15
+    pub space-short : {lent : ℕ} {space : List ℕ} → lent < 4 * t .elements → RecordWorked (Refused AnswerSpace) space t bytes s lent
+    unfolding workedAnswer trialSpaceFits
+    space-short l =
+        record {
+          decided = sym (step-rules.step-accepted t bytes s _ judged ∙ rw (lt-leb _ _ l));
+          kept = λ a. absurd (not-both (ap verdictAnswer a) refl);
+          enough = λ a. absurd (not-both (ap verdictAnswer a) refl);
+          held = λ a. absurd (not-both (ap verdictAnswer a) refl);
+          whole = h .whole;
+        }
+
+    -- and 16
+    pub after-judged :
+        {lent : ℕ} {under : Bool} {space : List ℕ} (answer : Bool)
+        → 4 * t .elements ≤ lent
+        → StepWorked under space t bytes s
+        → under ≡ answer
+        → RecordWorked (underVerdict answer) space t bytes s lent
+    unfolding workedAnswer trialSpaceFits
+    after-judged answer l w f =
+        record {
+          decided =
+              ap (λ (u : Bool). verdictAnswer (underVerdict u)) (sym f)
+              ∙ (w .decided ∙ sym (step-rules.step-accepted t bytes s _ judged ∙ rw (le-leb _ _ l)));
+          kept = λ _. h .kept accepts;
+          enough = λ _. l;
+          held = λ a. w .held (f ∙ none-passes answer a);
+          whole = h .whole;
+        }
 
 -- ---- the state
 
-module _ (t : TableValues) (bytes : List ℕ) (s : State) {v : Verdict} {space : List ℕ} (h : RecordWorked v space t bytes s) where
+-- a step lends itself as many numbers as its figures have, so that 15 never decides
+step-answer :
+    (t : TableValues) (bytes : List ℕ) (s : State) {lent : ℕ}
+    → lent ≡ 4 * t .elements
+    → workedAnswer t bytes s lent (stepped t (inputAt t bytes) s) ≡ stepOnAnswer t bytes s
+unfolding workedAnswer trialSpaceFits stepOnAnswer
+step-answer t bytes s e = rw (e, le-leb (4 * t .elements) (4 * t .elements) (omega arith))
+
+module _
+    (t : TableValues) (bytes : List ℕ) (s : State) {v : Verdict} {space : List ℕ} {lent : ℕ} (h : RecordWorked v space t bytes s lent)
+    (all : lent ≡ 4 * t .elements) where
   pub written-refused : {k : Refusal} → v ≡ Refused k → Answered v s (stepOnAnswer t bytes s) s
-  unfolding stepOnAnswer
-  written-refused e = answered-refused e (step-rules.all-refused t bytes s _ _ (sym (h .decided) ∙ ap verdictAnswer e)) refl
+  written-refused e =
+      answered-refused e (sym (step-answer t bytes s all) ∙ worked-refused t bytes s lent _ (sym (h .decided) ∙ ap verdictAnswer e)) refl
 
   pub written-accepted : {after : State} → v ≡ Accepted → after ≡ stepped t (inputAt t bytes) s → Answered Accepted after (stepOnAnswer t bytes s) s
-  unfolding stepOnAnswer
-  written-accepted e a = answered-accepted refl (step-rules.all-accepted t bytes s _ _ (sym (h .decided) ∙ ap verdictAnswer e)) a
+  written-accepted e a =
+      answered-accepted refl (sym (step-answer t bytes s all) ∙ worked-accepted t bytes s lent _ (sym (h .decided) ∙ ap verdictAnswer e)) a
 
 -- ---- what is given to each part
 
-module _ {table : List ℕ} {counts : Counts} {weight observed : List ℕ} {s : State} (p : RecordGiven table counts weight s observed) where
-  pub judge-ready : JudgeReady table (counts .basins) (counts .dams) s observed
-  judge-ready =
-      let known = p .weighed .counted in
-      record { counted = (known .table, (known .basins, known .dams)); fits = p .fits; room = p .room }
+-- what the network is worked out of, once the rules before 15 accept
+pub work-ready :
+    {table : List ℕ} {basins : ℕ} {weight bytes observed : List ℕ} {s : State} {v : Verdict}
+    → AcceptedTable table
+    → basins ≡ basinCount (tableIn table)
+    → WeightsHeld (tableIn table) weight
+    → stateFits (tableIn table) s ≡ true
+    → StepJudged (tableIn table) bytes s v observed
+    → v ≡ Accepted
+    → 2 * tableIn table .gauges ≤ length observed
+    → StepReady table basins weight bytes observed s
+work-ready accepts counted weights fits j e room =
+    record {
+      accepts = accepts;
+      counted = counted;
+      weights = weights;
+      kept = j .kept e;
+      held = j .held e;
+      room = room;
+      state = state-bounds _ _ fits;
+    }
 
-  pub work-ready :
-      {bytes after : List ℕ} {v : Verdict}
-      → StepJudged (tableIn table) bytes s v after
-      → length after ≡ length observed
-      → v ≡ Accepted
-      → StepReady table (counts .basins) weight bytes after s
-  work-ready j same e =
-      record {
-        accepts = p .weighed .counted .table;
-        counted = p .weighed .counted .basins;
-        weights = p .weighed .weights;
-        kept = j .kept e;
-        held = j .held e;
-        room = omega (arith, same, p .room);
-        state = state-bounds _ _ (p .fits);
-      }
-
--- ---- the spaces
-
--- a small river has no more gauges than elements
-pub small-room :
-    {table : List ℕ} {counts : Counts}
+pub river-given :
+    {table : List ℕ} {counts : Counts} {s : State}
     → Counted table counts
-    → counts .elements ≤ smallElements
-    → 2 * tableIn table .gauges ≤ length {A = ℕ} (replicate smallObservedNumbers 0)
-small-room {table} c l =
-    rw (length-replicate {A = ℕ} smallObservedNumbers 0) (omega (arith, gauges-few (tableIn table) (c .table .bounds), c .held .elements, l))
+    → stateFits (tableIn table) s ≡ true
+    → RiverGiven table (counts .elements) (counts .basins) (counts .dams) s
+river-given c f = record { accepts = c .table; elements = c .held .elements; basinsAll = c .basins; damsAll = c .dams; fits = f }
 
-pub large-room :
-    {table : List ℕ} {counts : Counts}
-    → Counted table counts
-    → 2 * tableIn table .gauges ≤ length {A = ℕ} (replicate observedNumbers 0)
-large-room c = rw (length-replicate {A = ℕ} observedNumbers 0) (omega (arith, c .table .bounds .gaugesMost))
+-- spaces of any sizes that are large enough
+module _ {table : List ℕ} {n basins dams : ℕ} {s : State} (g : RiverGiven table n basins dams s) where
+  pub spaces-ready :
+      (elements observed space : ℕ)
+      → n ≤ elements
+      → 2 * tableIn table .gauges ≤ observed
+      → 4 * (n + 1) ≤ space
+      → RecordGiven table basins dams s (replicate elements 0) (replicate observed 0) × Cleared (tableIn table .elements) (replicate space 0)
+  spaces-ready elements observed space few seen room = (
+    record {
+      counted = (g .accepts, (g .basinsAll, g .damsAll));
+      fits = g .fits;
+      weights = rw (length-replicate {A = ℕ} elements 0) (omega (arith, g .elements));
+      room = rw (length-replicate {A = ℕ} observed 0) seen;
+    },
+    cleared _ space (omega (arith, g .elements)),
+  )
+
+  -- a river has no more gauges than elements
+  pub few-gauges : tableIn table .gauges ≤ n
+  few-gauges = omega (arith, gauges-few (tableIn table) (g .accepts .bounds), g .elements)

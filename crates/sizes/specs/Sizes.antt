@@ -30,6 +30,9 @@ observedNumbers = 2 * mostGauges
 abbrev pub smallElements : ℕ
 smallElements = 4
 
+abbrev pub middleElements : ℕ
+middleElements = 16
+
 -- a small river has no more gauges than elements
 abbrev pub smallObservedNumbers : ℕ
 smallObservedNumbers = 2 * smallElements
@@ -37,12 +40,15 @@ smallObservedNumbers = 2 * smallElements
 abbrev pub smallStepSpace : ℕ
 smallStepSpace = 4 * (smallElements + 1)
 
+abbrev pub middleStepSpace : ℕ
+middleStepSpace = 4 * (middleElements + 1)
+
 abbrev pub stepSpace : ℕ
 stepSpace = 4 * (mostElements + 1)
 
 -- the working space of a forecast: the same at leads 0 to L
 abbrev pub tinyForecastSpace : ℕ
-tinyForecastSpace = 32
+tinyForecastSpace = 24
 
 abbrev pub smallForecastSpace : ℕ
 smallForecastSpace = 128
@@ -52,6 +58,13 @@ mediumForecastSpace = 520
 
 abbrev pub forecastSpace : ℕ
 forecastSpace = 4 * (mostElements + 1) * (mostLeads + 1)
+
+-- the elements that the first two have room for, at one lead
+abbrev pub tinyForecastElements : ℕ
+tinyForecastElements = 2
+
+abbrev pub smallForecastElements : ℕ
+smallForecastElements = 16
 
 -- the longest table, one of version 2; M-105: "the longest table is 2,442 bytes"
 abbrev pub tableBytes : ℕ

@@ -19,25 +19,35 @@ pub const ANSWER_NUMBERS: usize = 4 * MOST_ELEMENTS * (MOST_LEADS + 1);
 // The numbers of what the gauges observed: a discharge and a noise each.
 pub const OBSERVED_NUMBERS: usize = 2 * MOST_GAUGES;
 
-// The numbers of the working space of a step, for a small river and for any: four figures of each element, and of what leaves the river.
+// The numbers of the working space of a step, for a small river, a larger one and any: four figures of each element, and of what leaves the
+// river.
 pub const SMALL_ELEMENTS: usize = 4;
+
+pub const MIDDLE_ELEMENTS: usize = 16;
 
 // What the gauges of a small river observed: it has no more gauges than elements.
 pub const SMALL_OBSERVED_NUMBERS: usize = 2 * SMALL_ELEMENTS;
 
 pub const SMALL_STEP_SPACE: usize = 4 * (SMALL_ELEMENTS + 1);
 
+pub const MIDDLE_STEP_SPACE: usize = 4 * (MIDDLE_ELEMENTS + 1);
+
 pub const STEP_SPACE: usize = 4 * (MOST_ELEMENTS + 1);
 
-// The numbers of the working space of a forecast, the same at leads 0 to L: for three elements at one lead, for one element at all leads
+// The numbers of the working space of a forecast, the same at leads 0 to L: for two elements at one lead, for one element at all leads
 // (or fifteen at one), for nine elements at all leads (or all elements at one), and for any.
-pub const TINY_FORECAST_SPACE: usize = 32;
+pub const TINY_FORECAST_SPACE: usize = 24;
 
 pub const SMALL_FORECAST_SPACE: usize = 128;
 
 pub const MEDIUM_FORECAST_SPACE: usize = 520;
 
 pub const FORECAST_SPACE: usize = 4 * (MOST_ELEMENTS + 1) * (MOST_LEADS + 1);
+
+// The elements that the first two of them have room for, at one lead.
+pub const TINY_FORECAST_ELEMENTS: usize = 2;
+
+pub const SMALL_FORECAST_ELEMENTS: usize = 16;
 
 // The bytes of the longest table, and of the longest text that a record prints: 147 for each line.
 pub const TABLE_BYTES: usize = 10 + 26 * MOST_ELEMENTS + 48 * MOST_GAUGES;

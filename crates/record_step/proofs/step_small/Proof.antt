@@ -1,11 +1,13 @@
 -- `step_small` meets its contract.
 use borrow.Author.Needs.{needs}
 use native.Mathlib.Omega.{arith}
-use Rattle.sizes.specs.Sizes.{smallStepSpace}
-use Rattle.network_step.proofs.StepLaws.{cleared}
-use Rattle.record_step.proofs.StepLaws.{small-room}
+use Rattle.sizes.specs.Sizes.{smallElements, smallObservedNumbers, smallStepSpace}
+use Rattle.record_step.proofs.StepLaws.{few-gauges, spaces-ready}
 use Rattle.record_step.proofs.step_small.Statement.{statement}
 use Rattle.record_step.proofs.step_small.Tie as tie
+
+mul-work-record : tie.Need-mul-work-record
+mul-work-record c = search needs
 
 slice-aggregate-work-record : tie.Need-slice-aggregate-work-record
 slice-aggregate-work-record c = search needs
@@ -13,12 +15,13 @@ slice-aggregate-work-record c = search needs
 slice-aggregate-work-record-2 : tie.Need-slice-aggregate-work-record-2
 slice-aggregate-work-record-2 c = search needs
 
+slice-aggregate-work-record-3 : tie.Need-slice-aggregate-work-record-3
+slice-aggregate-work-record-3 c = search needs
+
 work-record-requires : tie.Need-work-record-requires
 work-record-requires c κs =
-    let p = c .before .before .before .before .before .before .pre in (
-      record { weighed = p .0 .0; fits = p .0 .1; room = small-room (p .0 .0 .counted) (p .1) },
-      cleared _ smallStepSpace (omega (arith, p .0 .0 .counted .held .elements, p .1)),
-    )
+    let g = c .before .before .before .before .before .before .pre in
+    spaces-ready (g .0) smallElements smallObservedNumbers smallStepSpace (g .1) (omega (arith, few-gauges (g .0), g .1)) (omega (arith, g .1))
 
 slice-aggregate-write-accepted : tie.Need-slice-aggregate-write-accepted
 slice-aggregate-write-accepted c = search needs
@@ -33,8 +36,10 @@ pub step-small-spec : {M : Type 1} → statement M
 step-small-spec =
     tie.close
     (tie.spec
+    mul-work-record
     slice-aggregate-work-record
     slice-aggregate-work-record-2
+    slice-aggregate-work-record-3
     work-record-requires
     slice-aggregate-write-accepted
     write-accepted-requires
