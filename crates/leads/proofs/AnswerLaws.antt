@@ -3,10 +3,9 @@ use Prim.Native.Nat.{ℕ, _+_, _*_, _-_, _≤_, _<_}
 use mathlib.Core.Bool.{Bool, true, false}
 use mathlib.Core.List.{List, _++_}
 use mathlib.Core.Path.{_≡_, refl, sym, ap, _∙_}
-use native.Mathlib.Decide.{decLe}
-use native.Mathlib.Nat.{mul-le-mul}
+use native.Mathlib.Nat.{mul-le-mul, mul-le-mul-left}
 use native.Mathlib.Omega.{arith}
-use lib.ListN.{length, getD, take, drop, replicate, getD-replicate, length-drop, List·getD-eq-default, length-replicate}
+use lib.ListN.{length, take, drop, replicate, length-drop, length-replicate}
 use lib.Seq.{paste, take-all, take-append-le, drop-append-le}
 use Rattle.sizes.specs.Sizes.{mostElements, mostLeads, answerNumbers}
 use Rattle.refusal.specs.Answers.{accepted, refused}
@@ -18,12 +17,12 @@ use Rattle.refusal.proofs.RuleLaws.{not-both}
 use Rattle.method.specs.declared.Figures.{Figures}
 use Rattle.table.specs.declared.Counts.{Counts}
 use Rattle.table.specs.Tables.{TableValues}
-use Rattle.table.specs.Bounds.{TableBounds}
+use Rattle.table.specs.Bounds.{TableBounds, Counted}
 use Rattle.table.specs.InUse.{tableIn}
 use Rattle.state.specs.States.{State}
 use Rattle.state.specs.Rules.{stateFits}
 use Rattle.state.proofs.BoundsLaws.{state-bounds}
-use Rattle.element_weights.specs.Weights.{Weighed}
+use Rattle.element_weights.specs.Weights.{WeightsHeld}
 use Rattle.network.specs.declared.ForecastAnswer.{ForecastAnswer}
 use Rattle.network.specs.declared.ForecastAnswer.the-variants as of-forecast
 use Rattle.network.specs.Forecast.{leadFigures, leadNumbers}
@@ -31,30 +30,42 @@ use Rattle.network.specs.Answer.{forecastFigures, spaceFits, leadsAnswer}
 use Rattle.network.specs.Lent.{layout, Lent}
 use Rattle.network.proofs.LayoutLaws.{layout-length, by-lead-length}
 use Rattle.network.proofs.LentLaws.{space-refused, space-accepted, ceiling-refused, written-accepted, written-refused, none-copied, all-copied}
-use Rattle.answer_space.specs.Places.{figuresAt}
-use Rattle.network_leads.specs.Worked.{Given, spaceSize, Empty, LeadsHeld, LeadsWorked}
-use Rattle.leads.specs.Held.{answerSize, CopyReady, countedBy, Copied, ForecastHeld}
+use Rattle.answer_space.specs.Places.{figuresAt, Empty}
+use Rattle.answer_space.proofs.EmptyLaws.{zeros-empty}
+use Rattle.network_leads.specs.Worked.{Given, spaceSize, LeadsHeld, LeadsWorked}
+use Rattle.leads.specs.Held.{answerSize, ForecastGiven, CopyReady, countedBy, Copied, ForecastHeld}
 use Rattle.leads.proofs.LayoutLaws.{figures-after, answer-laid}
 
 -- ---- what is given, and the numbers that a river needs
 
 -- the counts of an accepted table, and what rule 8 gives besides
 pub given :
-    {bytes : List ℕ} {counts : Counts} {weight : List ℕ} {s : State}
-    → Weighed bytes counts weight
+    {bytes : List ℕ} {counts : Counts} {s : State}
+    → Counted bytes counts
     → stateFits (tableIn bytes) s ≡ true
-    → Given bytes (counts .elements) (counts .leads) (counts .step) weight s
+    → ForecastGiven bytes (counts .elements) (counts .leads) (counts .step) s
 given p h =
     record {
-      table = p .counted .table;
-      elements = p .counted .held .elements;
-      leads = p .counted .held .leads;
-      step = p .counted .held .step;
-      weights = p .weights;
+      table = p .table;
+      elements = p .held .elements;
+      leads = p .held .leads;
+      step = p .held .step;
       state = state-bounds _ _ h;
     }
 
-module _ {bytes : List ℕ} {n L T : ℕ} {weight : List ℕ} {s : State} (g : Given bytes n L T weight s) where
+module _ {bytes : List ℕ} {n L T : ℕ} {s : State} (g : ForecastGiven bytes n L T s) where
+  -- with the weights of its elements
+  pub with-weights : {weight : List ℕ} → WeightsHeld (tableIn bytes) weight → Given bytes n L weight s
+  with-weights w = record { table = g .table; elements = g .elements; leads = g .leads; weights = w; state = g .state }
+
+  -- a space has the numbers of two leads of each element
+  pub elements-few : {room : ℕ} → spaceSize (tableIn bytes) ≤ room → 8 * (tableIn bytes .elements + 1) ≤ room
+  elements-few l =
+      omega (arith, l, mul-le-mul-left (4 * (tableIn bytes .elements + 1)) (two-leads (tableIn bytes .leads) (g .table .bounds .leadsLeast)))
+    where
+      two-leads : (L : ℕ) → 1 ≤ L → 2 ≤ L + 1
+      two-leads L h = omega arith
+
   pub answer-size : {needed : ℕ} → needed ≡ 4 * n * (L + 1) → needed ≡ answerSize (tableIn bytes)
   answer-size h = h ∙ rw (g .elements, g .leads)
 
@@ -72,23 +83,14 @@ answer-most n l few short =
 space-is : (t : TableValues) → spaceSize t ≡ 4 * (t .leads + 1) + answerSize t
 space-is t = omega arith
 
--- ---- an empty space
-
-pub all-empty : (space : List ℕ) (n : ℕ) → length space ≡ n → ((k : ℕ) → k < n → getD space k 0 ≡ 0) → Empty space
-all-empty space n long h = record { at = λ k. go k (decLe n k) }
-  where
-    go : (k : ℕ) → Dec (n ≤ k) → getD space k 0 ≡ 0
-    go k (yes l) = List·getD-eq-default space 0 (omega (arith, long))
-    go k (no l) = h k (omega arith)
+-- ---- spaces with nothing in them
 
 -- as the code makes it
 pub zeros-ready :
-    {bytes : List ℕ} {n L T : ℕ} {weight : List ℕ} {s : State} {room lent : ℕ}
-    → CopyReady bytes n L T weight s room lent
-    → CopyReady bytes n L T weight s (length {A = ℕ} (replicate room 0)) lent × Empty (replicate room 0)
-zeros-ready {room = room} h =
-    let long = length-replicate {A = ℕ} room 0 in
-    (rw long h, all-empty (replicate room 0) room long (λ k l. getD-replicate room k 0 0 l))
+    {bytes : List ℕ} {n L T : ℕ} {s : State} {own room lent : ℕ}
+    → CopyReady bytes n L T s own room lent
+    → CopyReady bytes n L T s (length {A = ℕ} (replicate own 0)) (length {A = ℕ} (replicate room 0)) lent × Empty (replicate room 0)
+zeros-ready {own = own} {room = room} h = (rw (length-replicate {A = ℕ} own 0, length-replicate {A = ℕ} room 0) h, zeros-empty room)
 
 -- ---- what the space holds
 

@@ -9,21 +9,32 @@ use Rattle.refusal.specs.Answers.{accepted}
 use Rattle.refusal.specs.declared.Refusal.the-variants.{AboveCeiling}
 use Rattle.method.specs.declared.Figures.{Figures}
 use Rattle.table.specs.Tables.{TableValues}
+use Rattle.table.specs.Bounds.{AcceptedTable}
 use Rattle.table.specs.InUse.{tableIn}
 use Rattle.state.specs.States.{State}
+use Rattle.state.specs.Bounds.{StateBounds}
 use Rattle.network.specs.declared.ForecastAnswer.{ForecastAnswer}
 use Rattle.network.specs.declared.ForecastAnswer.the-variants.{Accepted, Refused}
 use Rattle.network.specs.Answer.{leadsAnswer}
 use Rattle.network.specs.Lent.{layout, countAnswer, countWritten, Lent}
-use Rattle.network_leads.specs.Worked.{Given, spaceSize}
+use Rattle.network_leads.specs.Worked.{spaceSize}
 
 -- the numbers of the answer
 abbrev pub answerSize : TableValues → ℕ
 answerSize t = 4 * t .elements * (t .leads + 1)
 
--- what is given to a forecast, with so many numbers to work in, and so many lent for its answer
-pub record CopyReady (bytes : List ℕ) (n L T : ℕ) (weight : List ℕ) (s : State) (room lent : ℕ) : Type 0 where
-  pub given : Given bytes n L T weight s
+-- N, L and T of an accepted table, and a state that rule 8 accepts
+pub record ForecastGiven (bytes : List ℕ) (n L T : ℕ) (s : State) : Type 0 where
+  pub table : AcceptedTable bytes
+  pub elements : n ≡ tableIn bytes .elements
+  pub leads : L ≡ tableIn bytes .leads
+  pub step : T ≡ tableIn bytes .step
+  pub state : StateBounds (tableIn bytes) s
+
+-- what is given to a forecast, with so many numbers for weights, so many to work in, and so many lent for its answer
+pub record CopyReady (bytes : List ℕ) (n L T : ℕ) (s : State) (own room lent : ℕ) : Type 0 where
+  pub given : ForecastGiven bytes n L T s
+  pub weights : tableIn bytes .elements ≤ own
   pub space : spaceSize (tableIn bytes) ≤ room
   pub answer : answerSize (tableIn bytes) ≤ lent
 

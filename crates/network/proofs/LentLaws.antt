@@ -66,6 +66,20 @@ pub written-refused : {answer : Answer (List Figures)} {k : ℕ} → answer ≡ 
 unfolding countWritten
 written-refused e = rw e
 
+-- figures that stand in a part of a space, copied
+pub figures-lent :
+    (out part : List ℕ) {answer : Answer (List Figures)} {fs : List Figures} {after : List ℕ} {size needed count : ℕ}
+    → answer ≡ accepted fs
+    → length (layout fs) ≡ size
+    → take size part ≡ layout fs
+    → needed ≡ size
+    → after ≡ paste out 0 part needed
+    → count ≡ size
+    → Lent (of-forecast.Accepted count) after answer out
+unfolding lentAfter
+figures-lent out part {size = size} k long laid is a all =
+    record { count = ap accepted all ∙ written-accepted long k; numbers = a ∙ rw (is, k, laid, long, zero-add size) }
+
 -- figures that take so many numbers, with the numbers that 16 judges
 module _ (size : ℕ) (ns : List ℕ) (fs : List Figures) where
   abbrev pub spaceAnswer : ℕ → Answer (List Figures)
@@ -97,7 +111,4 @@ module _ (size : ℕ) (ns : List ℕ) (fs : List Figures) where
         → v ≡ Accepted
         → count ≡ size
         → Lent (of-forecast.Accepted count) after (spaceAnswer (length out)) out
-    unfolding lentAfter
-    all-copied part long laid is a e all =
-        let k = space-accepted (length out) fits decided e in
-        record { count = ap accepted all ∙ written-accepted long k; numbers = a ∙ rw (is, k, laid, long, zero-add size) }
+    all-copied part long laid is a e all = figures-lent out part (space-accepted (length out) fits decided e) long laid is a all

@@ -7,6 +7,9 @@ use Rattle.leads.proofs.in_medium.Tie as tie
 slice-aggregate-copy-out : tie.Need-slice-aggregate-copy-out
 slice-aggregate-copy-out c = search needs
 
+slice-aggregate-copy-out-2 : tie.Need-slice-aggregate-copy-out-2
+slice-aggregate-copy-out-2 c = search needs
+
 copy-out-requires : tie.Need-copy-out-requires
 copy-out-requires c κs = zeros-ready (c .before .before .before .before .before .pre)
 
@@ -18,4 +21,10 @@ returns c = search needs
 
 pub in-medium-spec : {M : Type 1} → statement M
 in-medium-spec =
-    tie.close (tie.spec slice-aggregate-copy-out copy-out-requires same-length returns)
+    tie.close
+    (tie.spec
+    slice-aggregate-copy-out
+    slice-aggregate-copy-out-2
+    copy-out-requires
+    same-length
+    returns)

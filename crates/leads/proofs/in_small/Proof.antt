@@ -7,6 +7,9 @@ use Rattle.leads.proofs.in_small.Tie as tie
 slice-aggregate-copy-out : tie.Need-slice-aggregate-copy-out
 slice-aggregate-copy-out c = search needs
 
+slice-aggregate-copy-out-2 : tie.Need-slice-aggregate-copy-out-2
+slice-aggregate-copy-out-2 c = search needs
+
 copy-out-requires : tie.Need-copy-out-requires
 copy-out-requires c κs = zeros-ready (c .before .before .before .before .before .pre)
 
@@ -17,4 +20,11 @@ returns : tie.Need-returns
 returns c = search needs
 
 pub in-small-spec : {M : Type 1} → statement M
-in-small-spec = tie.close (tie.spec slice-aggregate-copy-out copy-out-requires same-length returns)
+in-small-spec =
+    tie.close
+    (tie.spec
+    slice-aggregate-copy-out
+    slice-aggregate-copy-out-2
+    copy-out-requires
+    same-length
+    returns)

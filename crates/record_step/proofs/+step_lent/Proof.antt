@@ -1,6 +1,6 @@
 -- `step_lent` meets its contract: it calls itself once.
 use Prim.Native.Nat.{ℕ, _<_}
-use mathlib.Core.Bool.{Bool, true, false}
+use mathlib.Core.Bool.{Bool, cond}
 use mathlib.Core.Path.{ap}
 use borrow.Author.Needs.{needs}
 use native.Mathlib.Omega.{arith}
@@ -13,13 +13,8 @@ use Rattle.record_step.proofs.step_in.Reads as step-in-reads
 use Rattle.record_step.proofs.+step_lent.{statement}
 use Rattle.record_step.proofs.+step_lent.Tie.{close}
 
--- how often it still calls itself
-abbrev calls : Bool → ℕ
-calls true = 1
-calls false = 0
-
 abbrev μ-step-lent : Measures 5 step-lent-kinds.ps ℕ
-μ-step-lent κs a = calls (a .1 .1 .1 .1 .1 .1 .0)
+μ-step-lent κs a = cond (a .1 .1 .1 .1 .1 .1 .0) 1 0
 
 abbrev step-lent-at : ℕ → In 5 step-lent-kinds.ps
 step-lent-at t = and 5 step-lent-kinds.ps (is 5 step-lent-kinds.ps μ-step-lent t) step-lent.Pre
@@ -35,7 +30,7 @@ step-lent-step-lent-requires : (t : ℕ) → step-lent-lts.Need-step-lent-requir
 step-lent-step-lent-requires t c κs =
     let w = c .before .before in
     let s = w .before .before .before .before .before in
-    (omega (arith, s .pre .0, ap calls (w .if1 .taken)), s .pre .1)
+    (omega (arith, s .pre .0, ap (λ (b : Bool). cond {A = ℕ} b 1 0) (w .if1 .taken)), s .pre .1)
 
 step-lent-same-length : (t : ℕ) → step-lent-lts.Need-same-length (claims t) (step-lent-at t) step-lent.Post
 step-lent-same-length t c = search needs
