@@ -1,24 +1,20 @@
 // A trial of a step: the figures that the step would leave, in lent space; the state is kept.
-ghost use mathlib.Core.Bool.{true};
-ghost use mathlib.Core.List.{[]};
-ghost use mathlib.Core.Path.{_≡_};
 ghost use Prim.Native.Nat.{_≤_};
 ghost use lib.ListN.{length};
-ghost use Rattle.sizes.specs.Sizes.{smallElements};
+ghost use Rattle.sizes.specs.Sizes.{smallElements, middleElements};
 ghost use Rattle.table.specs.Bounds.{Counted};
-ghost use Rattle.table.specs.InUse.{tableIn};
-ghost use Rattle.state.specs.Rules.{stateFits};
 ghost use Rattle.network.specs.Lent.{Lent};
-ghost use Rattle.network_step.specs.Held.{Cleared};
-ghost use Rattle.record_step.specs.Judged.{RecordGiven};
+ghost use Rattle.record_step.specs.Judged.{RiverGiven};
 ghost use Rattle.entries.specs.Trials.{trialAnswer};
-ghost use Rattle.trial.specs.Held.{TrialHeld};
+ghost use Rattle.trial.specs.Held.{AnswerReady, FiguresWritten, TrialHeld};
 use answer_space::write_figures;
 use network::ForecastAnswer;
-use network_step::work_step;
-use record_step::judge_step;
+use record_step::work_record;
 use refusal::Refusal;
 use refusal::Verdict;
+use sizes::MIDDLE_ELEMENTS;
+use sizes::MIDDLE_STEP_SPACE;
+use sizes::MOST_ELEMENTS;
 use sizes::OBSERVED_NUMBERS;
 use sizes::SMALL_ELEMENTS;
 use sizes::SMALL_OBSERVED_NUMBERS;
@@ -27,65 +23,106 @@ use sizes::STATE_NUMBERS;
 use sizes::STEP_SPACE;
 use table::Counts;
 
-// A trial that rule 8 accepts, in a working space with nothing in it.
-fn trial_in(
-    table: &[u8],
-    counts: Counts,
-    bytes: &[u8],
-    state: &[u64; STATE_NUMBERS],
-    observed: &mut [u64],
-    space: &mut [u64],
-    out: &mut [u64],
-) -> ForecastAnswer
-    requires { ⌜ RecordGiven (now table) counts [] (now state) (now observed) × Cleared (tableIn (now table) .elements) (now space) ⌝ }
-    ensures { λ r. ⌜ TrialHeld r (now (out .exit)) (now (table .entry)) (now (bytes .entry)) (now (state .entry)) (now (out .entry)) ⌝ }
+// What a trial answers: the figures of n elements, put into the lent space where they were worked out.
+fn answer_trial(verdict: Verdict, n: usize, space: &[u64], out: &mut [u64]) -> ForecastAnswer
+    requires { ⌜ AnswerReady verdict n (now space) (now out) ⌝ }
+    ensures { λ r. ⌜ FiguresWritten verdict n (now (space .entry)) (now (out .entry)) r (now (out .exit)) ⌝ }
 {
-    let basins = counts.basins;
-    let verdict = judge_step(table, basins, counts.dams, bytes, state, &mut *observed);
-    if let Verdict::Refused(refusal) = verdict {
-        return ForecastAnswer::Refused(refusal);
+    match verdict {
+        Verdict::Accepted => {
+            write_figures(space, n, out);
+            ForecastAnswer::Accepted(4 * n)
+        }
+        Verdict::Refused(refusal) => ForecastAnswer::Refused(refusal),
     }
-    let needed = 4 * counts.elements;
-    if out.len() < needed {
-        return ForecastAnswer::Refused(Refusal::AnswerSpace);
-    }
-    let none = [0u64; 0];
-    if !work_step(table, basins, &none, bytes, &*observed, state, &mut *space) {
-        return ForecastAnswer::Refused(Refusal::AboveCeiling);
-    }
-    write_figures(&*space, counts.elements, out);
-    ForecastAnswer::Accepted(needed)
 }
 
-// The same in the working space of a small river, and of any.
+// A trial that rule 8 accepts, in the working space of each size.
 fn trial_small(
     table: &[u8],
-    counts: Counts,
+    n: usize,
+    basins: usize,
+    dams: usize,
     bytes: &[u8],
     state: &[u64; STATE_NUMBERS],
     out: &mut [u64],
 ) -> ForecastAnswer
-    requires { ⌜ (Counted (now table) counts × (stateFits (tableIn (now table)) (now state) ≡ true)) × (counts .elements ≤ smallElements) ⌝ }
+    requires { ⌜ RiverGiven (now table) n basins dams (now state) × (n ≤ smallElements) ⌝ }
     ensures { λ r. ⌜ TrialHeld r (now (out .exit)) (now (table .entry)) (now (bytes .entry)) (now (state .entry)) (now (out .entry)) ⌝ }
 {
+    let mut own = [0u64; SMALL_ELEMENTS];
     let mut observed = [0u64; SMALL_OBSERVED_NUMBERS];
     let mut space = [0u64; SMALL_STEP_SPACE];
-    trial_in(table, counts, bytes, state, &mut observed, &mut space, out)
+    let verdict = work_record(
+        table,
+        basins,
+        dams,
+        bytes,
+        state,
+        out.len(),
+        &mut own,
+        &mut observed,
+        &mut space,
+    );
+    answer_trial(verdict, n, &space, out)
 }
 
-fn trial_large(
+fn trial_middle(
     table: &[u8],
-    counts: Counts,
+    n: usize,
+    basins: usize,
+    dams: usize,
     bytes: &[u8],
     state: &[u64; STATE_NUMBERS],
     out: &mut [u64],
 ) -> ForecastAnswer
-    requires { ⌜ Counted (now table) counts × (stateFits (tableIn (now table)) (now state) ≡ true) ⌝ }
+    requires { ⌜ RiverGiven (now table) n basins dams (now state) × (n ≤ middleElements) ⌝ }
     ensures { λ r. ⌜ TrialHeld r (now (out .exit)) (now (table .entry)) (now (bytes .entry)) (now (state .entry)) (now (out .entry)) ⌝ }
 {
+    let mut own = [0u64; MIDDLE_ELEMENTS];
+    let mut observed = [0u64; OBSERVED_NUMBERS];
+    let mut space = [0u64; MIDDLE_STEP_SPACE];
+    let verdict = work_record(
+        table,
+        basins,
+        dams,
+        bytes,
+        state,
+        out.len(),
+        &mut own,
+        &mut observed,
+        &mut space,
+    );
+    answer_trial(verdict, n, &space, out)
+}
+
+fn trial_medium(
+    table: &[u8],
+    n: usize,
+    basins: usize,
+    dams: usize,
+    bytes: &[u8],
+    state: &[u64; STATE_NUMBERS],
+    out: &mut [u64],
+) -> ForecastAnswer
+    requires { ⌜ RiverGiven (now table) n basins dams (now state) ⌝ }
+    ensures { λ r. ⌜ TrialHeld r (now (out .exit)) (now (table .entry)) (now (bytes .entry)) (now (state .entry)) (now (out .entry)) ⌝ }
+{
+    let mut own = [0u64; MOST_ELEMENTS];
     let mut observed = [0u64; OBSERVED_NUMBERS];
     let mut space = [0u64; STEP_SPACE];
-    trial_in(table, counts, bytes, state, &mut observed, &mut space, out)
+    let verdict = work_record(
+        table,
+        basins,
+        dams,
+        bytes,
+        state,
+        out.len(),
+        &mut own,
+        &mut observed,
+        &mut space,
+    );
+    answer_trial(verdict, n, &space, out)
 }
 
 // A trial on an accepted table: rules 8 to 18.
@@ -99,13 +136,19 @@ fn trial_counted(
     requires { ⌜ Counted (now table) counts ⌝ }
     ensures { λ r. ⌜ TrialHeld r (now (out .exit)) (now (table .entry)) (now (bytes .entry)) (now (state .entry)) (now (out .entry)) ⌝ }
 {
-    if !state_rules::state_fits(table, counts.elements, state) {
+    let n = counts.elements;
+    let basins = counts.basins;
+    let dams = counts.dams;
+    if !state_rules::state_fits(table, n, state) {
         return ForecastAnswer::Refused(Refusal::StateRange);
     }
-    if counts.elements <= SMALL_ELEMENTS {
-        return trial_small(table, counts, bytes, state, out);
+    if n <= SMALL_ELEMENTS {
+        return trial_small(table, n, basins, dams, bytes, state, out);
     }
-    trial_large(table, counts, bytes, state, out)
+    if n <= MIDDLE_ELEMENTS {
+        return trial_middle(table, n, basins, dams, bytes, state, out);
+    }
+    trial_medium(table, n, basins, dams, bytes, state, out)
 }
 
 // A trial on the bytes of a table and of a record: rules 1 to 18, in the step's order, 15 before 16.

@@ -1,38 +1,58 @@
 -- `trial_small` meets its contract.
 use borrow.Author.Needs.{needs}
+use Prim.Native.Nat.{_+_, _*_, _≤_}
 use native.Mathlib.Omega.{arith}
-use Rattle.sizes.specs.Sizes.{smallStepSpace}
-use Rattle.element_weights.proofs.WeightsLaws.{none-held}
-use Rattle.network_step.proofs.StepLaws.{cleared}
-use Rattle.record_step.proofs.StepLaws.{small-room}
+use lib.ListN.{length}
+use Rattle.sizes.specs.Sizes.{smallElements, smallObservedNumbers, smallStepSpace}
+use Rattle.record_step.proofs.StepLaws.{few-gauges, spaces-ready}
+use Rattle.trial.proofs.TrialLaws.{answer-ready, trial-held}
 use Rattle.trial.proofs.trial_small.Statement.{statement}
 use Rattle.trial.proofs.trial_small.Tie as tie
 
-slice-aggregate-trial-in : tie.Need-slice-aggregate-trial-in
-slice-aggregate-trial-in c = search needs
+abbrev start : tie.After-work-record → tie.Start
+start w = w .before .before .before .before .before .before .before
 
-slice-aggregate-trial-in-2 : tie.Need-slice-aggregate-trial-in-2
-slice-aggregate-trial-in-2 c = search needs
+room : (w : tie.After-work-record) → 4 * (start w .args .n + 1) ≤ length (w .work-record .last .1 .1 .1 .1 .1 .1 .1 .1 .0)
+room w = omega (arith, w .work-record .kept, start w .pre .1)
 
-trial-in-requires : tie.Need-trial-in-requires
-trial-in-requires c κs =
-    let p = c .before .before .before .before .before .before .pre in (
-      record { weighed = record { counted = p .0 .0; weights = none-held _ }; fits = p .0 .1; room = small-room (p .0 .0) (p .1) },
-      cleared _ smallStepSpace (omega (arith, p .0 .0 .held .elements, p .1)),
-    )
+slice-aggregate-work-record : tie.Need-slice-aggregate-work-record
+slice-aggregate-work-record c = search needs
+
+slice-aggregate-work-record-2 : tie.Need-slice-aggregate-work-record-2
+slice-aggregate-work-record-2 c = search needs
+
+slice-aggregate-work-record-3 : tie.Need-slice-aggregate-work-record-3
+slice-aggregate-work-record-3 c = search needs
+
+work-record-requires : tie.Need-work-record-requires
+work-record-requires c κs =
+    let g = c .before .before .before .before .before .before .pre in
+    spaces-ready (g .0) smallElements smallObservedNumbers smallStepSpace (g .1) (omega (arith, few-gauges (g .0), g .1)) (omega (arith, g .1))
+
+slice-aggregate-answer-trial : tie.Need-slice-aggregate-answer-trial
+slice-aggregate-answer-trial c = search needs
+
+answer-trial-requires : tie.Need-answer-trial-requires
+answer-trial-requires c κs = let w = c .before .before .before .before .before in answer-ready _ _ _ (start w .pre .0) (w .work-record .ensures) (room w)
 
 same-length : tie.Need-same-length
 same-length c = search needs
 
 returns : tie.Need-returns
-returns c = search needs
+returns c =
+    let a = c .before .before in
+    let w = a .before .before .before .before .before .before in
+    trial-held _ _ _ (start w .pre .0) _ _ _ (w .work-record .ensures) (room w) (a .answer-trial .ensures)
 
 pub trial-small-spec : {M : Type 1} → statement M
 trial-small-spec =
     tie.close
     (tie.spec
-    slice-aggregate-trial-in
-    slice-aggregate-trial-in-2
-    trial-in-requires
+    slice-aggregate-work-record
+    slice-aggregate-work-record-2
+    slice-aggregate-work-record-3
+    work-record-requires
+    slice-aggregate-answer-trial
+    answer-trial-requires
     same-length
     returns)
