@@ -2,14 +2,13 @@
 use Prim.{Unit}
 use Prim.Native.Nat.{ℕ}
 use mathlib.Core.Bool.{true, false}
-use mathlib.Core.List.{List, []}
+use mathlib.Core.List.{List}
 use mathlib.Core.Path.{_≡_, refl}
 use Rattle.refusal.specs.Refusals.{number}
 use Rattle.refusal.specs.Answers.{Answer, accepted, refused}
 use Rattle.refusal.specs.declared.Refusal.{Refusal}
 use Rattle.refusal.specs.declared.Verdict.{Verdict}
 use Rattle.refusal.specs.declared.Verdict.the-variants.{Accepted, Refused}
-use Rattle.table.specs.declared.Counts.{Counts}
 use Rattle.table.specs.Tables.{TableValues}
 use Rattle.table.specs.Rules.{tableRules}
 use Rattle.table.specs.InUse.{tableIn}
@@ -20,14 +19,7 @@ use Rattle.state.specs.Start.{started}
 use Rattle.state.specs.Answers.{Answered}
 use Rattle.state.proofs.AnswerLaws.{answered-refused, answered-accepted}
 use Rattle.network.specs.Answer.{leadsAnswer}
-use Rattle.element_weights.specs.Weights.{Weighed}
-use Rattle.element_weights.proofs.WeightsLaws.{none-held}
 use Rattle.entries.specs.Entries.{startAnswer, stepRules, stepOnAnswer, forecastOnAnswer}
-use Rattle.table.specs.Bounds.{Counted}
-
--- a call that keeps no weights
-pub unweighed : {bytes : List ℕ} {counts : Counts} → Counted bytes counts → Weighed bytes counts []
-unweighed h = record { counted = h; weights = none-held _ }
 
 -- ---- the start
 

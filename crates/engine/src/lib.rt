@@ -41,8 +41,7 @@ fn step_counted(
     if !state_rules::state_fits(table, counts.elements, &*state) {
         return Verdict::Refused(Refusal::StateRange);
     }
-    let none = [0u64; 0];
-    step_from(table, counts, &none, bytes, state)
+    step_from(table, counts, bytes, state)
 }
 
 // A step on the bytes of a table and of a record: rules 1 to 14 and 16 to 18.
@@ -70,8 +69,7 @@ fn forecast_counted(
     if !state_rules::state_fits(table, counts.elements, state) {
         return ForecastAnswer::Refused(Refusal::StateRange);
     }
-    let none = [0u64; 0];
-    leads::forecast_on(table, counts, &none, state, out)
+    leads::forecast_on(table, counts, state, out)
 }
 
 // A forecast on the bytes of a table into lent space: rules 1 to 8, 15 and 16.

@@ -27,7 +27,7 @@ fn answer_forecast(
     requires { ⌜ RecordReady (now table) counts (now weights) (now state) (now space) (now fours) (now out) at ⌝ }
     ensures { λ r. ⌜ TextAnsweredOf r (now (out .entry)) at (now (out .exit)) (forecastPrinted (tableIn (now (table .entry))) (now (state .entry)) (forecastOnAnswer (tableIn (now (table .entry))) (now (state .entry)) answerNumbers)) ⌝ }
 {
-    let answer = leads::forecast_in(table, counts, weights, state, &mut *space);
+    let answer = leads::forecast_in(table, counts, weights, state, &mut *space, true);
     let steps = state[1];
     let elements = counts.elements;
     let leads = counts.leads + 1;
@@ -65,7 +65,15 @@ pub fn answer_record(
     requires { ⌜ RecordReady (now table) counts (now weights) (now state) (now space) (now fours) (now out) at ⌝ }
     ensures { λ r. ⌜ Reported r (now (out .entry)) at (now (out .exit)) (now (state .exit)) (recordOnPrinted (tableIn (now (table .entry))) (now (bytes .entry)) (now (state .entry))) ⌝ }
 {
-    let verdict = record_step::step_from(table, counts, weights, bytes, &mut *state);
+    let verdict = record_step::step_lent(
+        table,
+        counts,
+        weights,
+        bytes,
+        &mut *space,
+        &mut *state,
+        true,
+    );
     match verdict {
         Verdict::Accepted => answer_forecast(
             table,

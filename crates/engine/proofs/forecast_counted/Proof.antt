@@ -6,7 +6,7 @@ use borrow.Author.Tests.{not-true, not-false}
 use Rattle.table.specs.InUse.{tableIn}
 use Rattle.state.specs.Rules.{stateFits}
 use Rattle.network.proofs.LentLaws.{lent-refused, lent-as}
-use Rattle.engine.proofs.EntryLaws.{unweighed, forecast-state-refused, forecast-state-kept}
+use Rattle.engine.proofs.EntryLaws.{forecast-state-refused, forecast-state-kept}
 use Rattle.engine.proofs.forecast_counted.Statement.{statement}
 use Rattle.engine.proofs.forecast_counted.Tie as tie
 
@@ -22,13 +22,9 @@ state-fits-requires c κs = search needs
 returns : tie.Need-returns
 returns c = lent-refused _ _ _ (forecast-state-refused _ _ _ (sym (c .before .state-fits .ensures) ∙ not-true _ (c .if1 .taken)))
 
-slice-aggregate-forecast-on : tie.Need-slice-aggregate-forecast-on
-slice-aggregate-forecast-on c = search needs
-
 forecast-on-requires : tie.Need-forecast-on-requires
 forecast-on-requires c κs =
-    let e = c .before .before in
-    (unweighed (start (e .before) .pre), fits e)
+    let e = c .before in (start (e .before) .pre, fits e)
 
 same-length : tie.Need-same-length
 same-length c = search needs
@@ -36,7 +32,7 @@ same-length c = search needs
 returns-2 : tie.Need-returns-2
 returns-2 c =
     let f = c .before .before in
-    lent-as (forecast-state-kept _ _ _ (fits (f .before .before .before))) (f .forecast-on .ensures)
+    lent-as (forecast-state-kept _ _ _ (fits (f .before .before))) (f .forecast-on .ensures)
 
 pub forecast-counted-spec : {M : Type 1} → statement M
 forecast-counted-spec =
@@ -44,7 +40,6 @@ forecast-counted-spec =
     (tie.spec
     state-fits-requires
     returns
-    slice-aggregate-forecast-on
     forecast-on-requires
     same-length
     returns-2)

@@ -6,7 +6,7 @@ use borrow.Author.Tests.{not-true, not-false}
 use Rattle.table.specs.InUse.{tableIn}
 use Rattle.state.specs.Rules.{stateFits}
 use Rattle.state.proofs.AnswerLaws.{answered-refused}
-use Rattle.engine.proofs.EntryLaws.{unweighed, state-refused}
+use Rattle.engine.proofs.EntryLaws.{state-refused}
 use Rattle.engine.proofs.step_counted.Statement.{statement}
 use Rattle.engine.proofs.step_counted.Tie as tie
 
@@ -22,13 +22,9 @@ state-fits-requires c κs = search needs
 returns : tie.Need-returns
 returns c = answered-refused refl (state-refused _ _ _ (sym (c .before .state-fits .ensures) ∙ not-true _ (c .if1 .taken))) refl
 
-slice-aggregate-step-from : tie.Need-slice-aggregate-step-from
-slice-aggregate-step-from c = search needs
-
 step-from-requires : tie.Need-step-from-requires
 step-from-requires c κs =
-    let e = c .before .before in
-    (unweighed (start (e .before) .pre), fits e)
+    let e = c .before in (start (e .before) .pre, fits e)
 
 returns-2 : tie.Need-returns-2
 returns-2 c = search needs
@@ -36,4 +32,4 @@ returns-2 c = search needs
 pub step-counted-spec : {M : Type 1} → statement M
 step-counted-spec =
     tie.close
-    (tie.spec state-fits-requires returns slice-aggregate-step-from step-from-requires returns-2)
+    (tie.spec state-fits-requires returns step-from-requires returns-2)
