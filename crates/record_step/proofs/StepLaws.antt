@@ -8,7 +8,6 @@ use borrow.Author.Tests.{le-leb, lt-leb}
 use native.Mathlib.Omega.{arith}
 use lib.ListN.{length, replicate, length-replicate}
 use Rattle.sizes.specs.Sizes.{stateNumbers}
-use Rattle.refusal.specs.Refusals.{number}
 use Rattle.refusal.specs.Answers.{andThen, accepted, refused}
 use Rattle.refusal.proofs.RuleLaws.{not-both, rule-then}
 use Rattle.refusal.specs.declared.Refusal.{Refusal}
@@ -37,7 +36,7 @@ use Rattle.network_step.proofs.StepLaws.{cleared}
 use Rattle.entries.specs.Entries.{stepRules, stepOnAnswer}
 use Rattle.entries.specs.Trials.{trialSpaceFits}
 use Rattle.entries.proofs.StepRuleLaws as step-rules
-use Rattle.record_step.specs.Judged.{RiverGiven, JudgeReady, StepJudged, workedAnswer, RecordGiven, RecordWorked}
+use Rattle.record_step.specs.Judged.{RiverGiven, StepJudged, workedAnswer, RecordGiven, RecordWorked}
 
 -- ---- the rules before 15 and 16
 

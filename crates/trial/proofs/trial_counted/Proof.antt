@@ -1,7 +1,6 @@
 -- `trial_counted` meets its contract.
 use borrow.Author.Needs.{needs}
-use mathlib.Core.Bool.{true}
-use mathlib.Core.Path.{_≡_, sym, _∙_}
+use mathlib.Core.Path.{sym, _∙_}
 use borrow.Author.Tests.{not-true, not-false}
 use Rattle.record_step.specs.Judged.{RiverGiven}
 use Rattle.record_step.proofs.StepLaws.{river-given}
