@@ -1,6 +1,9 @@
 // Rule 5: the fields of an element.
 ghost use mathlib.Core.Path.{_≡_};
-ghost use Rattle.elements.specs.Rules.{lagFits, basinFits, reachFits, damFits};
+ghost use Rattle.elements.specs.Rules.{lagFits, basinFits, reachFits, damFits, tanksFit};
+ghost use mathlib.Core.Bool.{_&&_};
+ghost use lib.Dec.{eqb};
+ghost use Rattle.elements.specs.Kinds.{tanks};
 ghost use Rattle.element_rules.specs.Judged.{judgedKind, judged};
 use elements::Element;
 use fields::range::in_range;
@@ -13,6 +16,7 @@ pub enum JudgedElement {
     Basin,
     Reach,
     Dam,
+    Tanks,
 }
 
 // The lag of an element that stores water.
@@ -43,6 +47,18 @@ fn reach_fits(e: Element) -> bool
 {
     let noise = e.rain_noise;
     (e.area == 0) & (e.runoff == 0) & (noise.0 == 0)
+}
+
+// Tanks, and what they ask of the other fields. (The kind is tested with these, not in an arm of its own: of four arms the compiler makes a table
+// of jumps.)
+fn tanks_fit(e: Element) -> bool
+    ensures { λ r. ⌜ r ≡ (eqb (e .kind) tanks && tanksFit e) ⌝ }
+{
+    let noise = e.rain_noise;
+    if !((e.kind == elements::TANKS) & (e.area == 0) & (noise.0 == 0)) {
+        return false;
+    }
+    in_range(e.runoff, 2, 8)
 }
 
 fn dam_fits(e: Element) -> bool
@@ -85,7 +101,15 @@ fn judge_kind(step: u64, e: Element) -> JudgedElement
             }
             JudgedElement::Basin
         }
-        _ => JudgedElement::Refused,
+        _ => {
+            if !tanks_fit(e) {
+                return JudgedElement::Refused;
+            }
+            if !lag_fits(step, e) {
+                return JudgedElement::Refused;
+            }
+            JudgedElement::Tanks
+        }
     }
 }
 

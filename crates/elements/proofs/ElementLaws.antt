@@ -1,23 +1,24 @@
 -- Laws of the elements: what rules 5 and 6 let callers rely on.
 use Prim.Native.Nat.{ℕ, _+_, _-_, _≤_, _<_}
-use mathlib.Core.Bool.{Bool, true, false, not, _&&_, _||_, true≢false}
+use mathlib.Core.Bool.{Bool, true, false, not, _&&_, _||_, cond, true≢false}
 use mathlib.Core.Logic.{_⊎_, inl, inr, _≢_, ⊎-elim}
-use mathlib.Core.Path.{_≡_, sym, ap}
-use borrow.Author.Tests.{ltb-true, leb-true, eqb-true}
+use mathlib.Core.Path.{_≡_, refl, sym, ap}
+use borrow.Author.Tests.{ltb-true, leb-true, eqb-true, eqb-false}
 use native.Mathlib.Omega.{arith}
 use lib.Dec.{ltb, leb, eqb}
 use Rattle.units.specs.Units.{C}
 use Rattle.fields.specs.Ranges.{inRange}
 use Rattle.fields.proofs.RangeLaws.{both, all-three, all-four, either, joined-same, range-bounds}
 use Rattle.elements.specs.declared.Element.{Element}
-use Rattle.elements.specs.Rules.{lagFits, basinFits, reachFits, damFits, kindFits, elementFits, downFits}
-use Rattle.elements.specs.Bounds.{ElementBounds}
-use Rattle.elements.specs.Kinds.{basin, reach, dam, IsKind}
+use Rattle.elements.specs.Rules.{lagFits, basinFits, reachFits, damFits, tanksFit, kindFits, elementFits, downFits}
+use Rattle.elements.specs.Bounds.{AcceptedElement}
+use Rattle.elements.specs.Kinds.{basin, reach, dam, tanks, byKind, IsKind}
 use Rattle.elements.proofs.KindLaws.{kind-cases}
 
 -- what rule 5 asks of each kind
 pub record KindBounds (T : ℕ) (e : Element) : Type 0 where
-  pub kind : IsKind (e .kind)
+  pub single : e .kind ≢ tanks → IsKind (e .kind)
+  pub tanks : e .kind ≡ tanks → (2 ≤ e .runoff) × (e .runoff ≤ 8)
   pub lag : e .kind ≢ dam → (T ≤ e .lag) × (e .lag ≤ 60000)
   pub noLag : e .kind ≡ dam → e .lag ≡ 0
   pub area : e .area ≤ 400000
@@ -33,7 +34,8 @@ module _ (T : ℕ) (e : Element) where
       let runoff = inRange (e .runoff) 0 1000 in
       let r = all-three area runoff (inRange (e .«rain_noise» .0) 0 100000000) (l .1) in
       record {
-        kind = inl k;
+        single = λ _. inl k;
+        tanks = λ t. absurd (omega (arith, k, t));
         lag = λ _. range-bounds _ _ _ (l .0);
         noLag = λ d. absurd (omega (arith, k, d));
         area = range-bounds _ _ _ (r .0) .1;
@@ -53,7 +55,8 @@ module _ (T : ℕ) (e : Element) where
       let l = both (inRange (e .lag) T 60000) _ h in
       let r = no-rain (l .1) in
       record {
-        kind = inr (inl k);
+        single = λ _. inr (inl k);
+        tanks = λ t. absurd (omega (arith, k, t));
         lag = λ _. range-bounds _ _ _ (l .0);
         noLag = λ d. absurd (omega (arith, k, d));
         area = omega (arith, r .0);
@@ -67,7 +70,8 @@ module _ (T : ℕ) (e : Element) where
       let l = both (eqb (e .lag) 0) _ h in
       let r = no-rain (l .1) in
       record {
-        kind = inr (inr k);
+        single = λ _. inr (inr k);
+        tanks = λ t. absurd (omega (arith, k, t));
         lag = λ n. absurd (n k);
         noLag = λ _. eqb-true _ _ (l .0);
         area = omega (arith, r .0);
@@ -75,11 +79,35 @@ module _ (T : ℕ) (e : Element) where
         rainNoise = omega (arith, r .1 .1);
       }
 
+  tanks-bounds : e .kind ≡ tanks → (lagFits T e && tanksFit e) ≡ true → KindBounds T e
+  unfolding lagFits tanksFit
+  tanks-bounds k h =
+      let l = both (inRange (e .lag) T 60000) _ h in
+      let r = all-three (eqb (e .area) 0) (inRange (e .runoff) 2 8) (eqb (e .«rain_noise» .0) 0) (l .1) in
+      let count = range-bounds (e .runoff) 2 8 (r .1 .0) in
+      record {
+        single = λ n. absurd (n k);
+        tanks = λ _. count;
+        lag = λ _. range-bounds _ _ _ (l .0);
+        noLag = λ d. absurd (omega (arith, k, d));
+        area = omega (arith, eqb-true (e .area) 0 (r .0));
+        runoff = omega (arith, count);
+        rainNoise = omega (arith, eqb-true (e .«rain_noise» .0) 0 (r .1 .1));
+      }
+
   pub kind-bounds : kindFits T e ≡ true → KindBounds T e
   unfolding kindFits
-  kind-bounds h =
-      kind-cases (λ (fits : Bool). fits ≡ true → KindBounds T e) (e .kind) basin-bounds reach-bounds dam-bounds
-      (λ p q r n. absurd (true≢false (sym n))) h
+  kind-bounds h = go (eqb (e .kind) tanks) refl h
+    where
+      go :
+          (x : Bool)
+          → eqb (e .kind) tanks ≡ x
+          → cond x (lagFits T e && tanksFit e) (byKind (e .kind) (lagFits T e && basinFits e) (lagFits T e && reachFits e) (damFits e) false) ≡ true
+          → KindBounds T e
+      go true k f = tanks-bounds (eqb-true _ _ k) f
+      go false k f =
+          kind-cases (λ (fits : Bool). fits ≡ true → KindBounds T e) (e .kind) basin-bounds reach-bounds dam-bounds
+          (λ p q r n. absurd (true≢false (sym n))) f
 
 -- what rule 6 asks
 record DownBounds (n i down : ℕ) : Type 0 where
@@ -98,7 +126,7 @@ module _ (n : ℕ) (element : ℕ → Element) (i : ℕ) where
       (λ k. let l = all-three later most open-below k in record { most = leb-true _ _ (l .1 .0); later = inr (ltb-true _ _ (l .0)) })
       (either (eqb d 0) ((later && most) && open-below) h)
 
-  pub element-bounds : (T : ℕ) → elementFits T (element i) ≡ true → downFits n element i ≡ true → ElementBounds T n i (element i)
+  pub element-bounds : (T : ℕ) → elementFits T (element i) ≡ true → downFits n element i ≡ true → AcceptedElement T n i (element i)
   unfolding elementFits
   element-bounds T h k =
       let e = element i in
@@ -108,7 +136,8 @@ module _ (n : ℕ) (element : ℕ → Element) (i : ℕ) where
       let own = kind-bounds T e (a .0) in
       let down = down-bounds k in
       record {
-        kind = own .kind;
+        single = own .single;
+        tanks = own .tanks;
         down = down .most;
         later = down .later;
         lag = own .lag;

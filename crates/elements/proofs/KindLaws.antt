@@ -6,7 +6,7 @@ use mathlib.Core.Path.{_≡_, refl}
 use borrow.Author.Tests.{eqb-true, eqb-false, ne-eqb}
 use native.Mathlib.Omega.{arith}
 use lib.Dec.{eqb}
-use Rattle.elements.specs.Kinds.{basin, reach, dam, byKind, basinOf, damOf, IsKind}
+use Rattle.elements.specs.Kinds.{basin, reach, dam, tanks, byKind, basinOf, damOf, IsKind}
 
 -- each case of it
 module _ {A : Type 0} (kind : ℕ) (a b c d : A) where
@@ -25,6 +25,11 @@ module _ {A : Type 0} (kind : ℕ) (a b c d : A) where
   pub by-none : kind ≢ basin → kind ≢ reach → kind ≢ dam → byKind kind a b c d ≡ d
   unfolding byKind
   by-none p q r = rw (ne-eqb kind basin p, ne-eqb kind reach q, ne-eqb kind dam r)
+
+  -- tanks are none of the three
+  pub by-tanks : kind ≡ tanks → byKind kind a b c d ≡ d
+  unfolding byKind
+  by-tanks e = rw e
 
 -- a byte that is a kind is one of them
 pub no-other : {kind : ℕ} → IsKind kind → kind ≢ basin → kind ≢ reach → kind ≢ dam → ⊥

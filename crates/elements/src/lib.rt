@@ -1,9 +1,9 @@
 // The elements of a table.
 ghost use mathlib.Core.Path.{_≡_};
-ghost use Prim.Native.Nat.{_+_, _*_, _≤_};
+ghost use Prim.Native.Nat.{_+_, _*_, _-_, _≤_};
 ghost use lib.ListN.{length};
 ghost use Rattle.elements.specs.Elements.{elementAt};
-ghost use Rattle.elements.specs.Kinds.{basinOf};
+ghost use Rattle.elements.specs.Kinds.{tanks, basinOf, extraTanks};
 use fields::bytes::whole16;
 use fields::bytes::whole32;
 use fields::bytes::wide;
@@ -17,6 +17,8 @@ pub const BASIN: u64 = 1;
 pub const REACH: u64 = 2;
 
 pub const DAM: u64 = 3;
+
+pub const TANKS: u64 = 4;
 
 // An element of the table, of one of these kinds.
 pub struct Element {
@@ -33,7 +35,7 @@ pub struct Element {
 
 // Element i, counted from 0, all of whose bytes are there.
 pub fn element_at(table: &[u8], i: usize) -> Element
-    requires { ⌜ (i ≤ 255) × (26 * i + 36 ≤ length (now table)) ⌝ }
+    requires { ⌜ (i ≤ 1000) × (26 * i + 36 ≤ length (now table)) ⌝ }
     ensures { λ r. ⌜ r ≡ elementAt (now (table .entry)) i ⌝ }
 {
     let at = 26 * i + 10;
@@ -52,7 +54,7 @@ pub fn element_at(table: &[u8], i: usize) -> Element
 
 // The kind of element i.
 pub fn kind_at(table: &[u8], i: usize) -> u64
-    requires { ⌜ (i ≤ 255) × (26 * i + 36 ≤ length (now table)) ⌝ }
+    requires { ⌜ (i ≤ 1000) × (26 * i + 36 ≤ length (now table)) ⌝ }
     ensures { λ r. ⌜ r ≡ elementAt (now (table .entry)) i .kind ⌝ }
 {
     wide(table[26 * i + 10])
@@ -60,7 +62,7 @@ pub fn kind_at(table: &[u8], i: usize) -> u64
 
 // The lag of element i.
 pub fn lag_at(table: &[u8], i: usize) -> u64
-    requires { ⌜ (i ≤ 255) × (26 * i + 36 ≤ length (now table)) ⌝ }
+    requires { ⌜ (i ≤ 1000) × (26 * i + 36 ≤ length (now table)) ⌝ }
     ensures { λ r. ⌜ r ≡ elementAt (now (table .entry)) i .lag ⌝ }
 {
     whole16(table, 26 * i + 10 + 2)
@@ -68,10 +70,37 @@ pub fn lag_at(table: &[u8], i: usize) -> u64
 
 // The number of the element that element i drains into.
 pub fn down_at(table: &[u8], i: usize) -> usize
-    requires { ⌜ (i ≤ 255) × (26 * i + 36 ≤ length (now table)) ⌝ }
+    requires { ⌜ (i ≤ 1000) × (26 * i + 36 ≤ length (now table)) ⌝ }
     ensures { λ r. ⌜ r ≡ elementAt (now (table .entry)) i .down ⌝ }
 {
     wide(table[26 * i + 10 + 1]) as usize
+}
+
+// The system noise of element i.
+pub fn noise_at(table: &[u8], i: usize) -> u64
+    requires { ⌜ (i ≤ 1000) × (26 * i + 36 ≤ length (now table)) ⌝ }
+    ensures { λ r. ⌜ r ≡ elementAt (now (table .entry)) i .«system_noise» .0 ⌝ }
+{
+    whole32(table, 26 * i + 10 + 18)
+}
+
+// How many tanks element i, one of tanks, has above its last.
+pub fn extra_at(table: &[u8], i: usize) -> usize
+    requires { ⌜ ((i ≤ 1000) × (26 * i + 36 ≤ length (now table))) × (1 ≤ elementAt (now table) i .runoff) ⌝ }
+    ensures { λ r. ⌜ r ≡ elementAt (now (table .entry)) i .runoff - 1 ⌝ }
+{
+    whole16(table, 26 * i + 10 + 8) as usize - 1
+}
+
+// How many tanks element i has above its last: none where it is not one of tanks.
+pub fn extra_of(table: &[u8], i: usize) -> usize
+    requires { ⌜ ((i ≤ 1000) × (26 * i + 36 ≤ length (now table))) × ((elementAt (now table) i .kind ≡ tanks) → 1 ≤ elementAt (now table) i .runoff) ⌝ }
+    ensures { λ r. ⌜ r ≡ extraTanks (elementAt (now (table .entry)) i) ⌝ }
+{
+    if kind_at(table, i) == TANKS {
+        return extra_at(table, i);
+    }
+    0
 }
 
 // How many basins an element of this kind is.
@@ -82,6 +111,7 @@ pub fn basin_of(kind: u64) -> usize
         BASIN => 1,
         REACH => 0,
         DAM => 0,
+        TANKS => 0,
         _ => 0,
     }
 }

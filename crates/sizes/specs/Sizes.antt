@@ -5,6 +5,11 @@ use Prim.Native.Nat.{ℕ, _+_, _*_}
 abbrev pub mostElements : ℕ
 mostElements = 64
 
+-- the places of a state: elements, and the tanks above the last of their elements (M-107); M-108: "elements and extra tanks together may not
+-- pass 1,000"
+abbrev pub mostPlaces : ℕ
+mostPlaces = 1000
+
 abbrev pub mostLeads : ℕ
 mostLeads = 12
 
@@ -16,7 +21,7 @@ abbrev pub placeNumbers : ℕ
 placeNumbers = 7
 
 abbrev pub stateNumbers : ℕ
-stateNumbers = 2 + placeNumbers * mostElements
+stateNumbers = 2 + placeNumbers * mostPlaces
 
 -- "4 × N × (L + 1) numbers", at most
 abbrev pub answerNumbers : ℕ
@@ -43,8 +48,15 @@ smallStepSpace = 4 * (smallElements + 1)
 abbrev pub middleStepSpace : ℕ
 middleStepSpace = 4 * (middleElements + 1)
 
+abbrev pub mediumPlaces : ℕ
+mediumPlaces = 64
+
+abbrev pub mediumStepSpace : ℕ
+mediumStepSpace = 4 * (mediumPlaces + 1)
+
+-- M-107: an element has at most eight tanks
 abbrev pub stepSpace : ℕ
-stepSpace = 4 * (mostElements + 1)
+stepSpace = 4 * (8 * mostElements + 1)
 
 -- the working space of a forecast: the same at leads 0 to L
 abbrev pub tinyForecastSpace : ℕ
@@ -57,7 +69,7 @@ abbrev pub mediumForecastSpace : ℕ
 mediumForecastSpace = 520
 
 abbrev pub forecastSpace : ℕ
-forecastSpace = 4 * (mostElements + 1) * (mostLeads + 1)
+forecastSpace = 4 * (mostElements + 8) * (mostLeads + 1)
 
 -- the elements that the first two have room for, at one lead
 abbrev pub tinyForecastElements : ℕ

@@ -1,14 +1,15 @@
 -- Laws of the numbers of basins and dams of a table.
 use Prim.Native.Nat.{ℕ, zero, suc, _+_, _≤_, _<_}
 use mathlib.Core.List.{List}
-use mathlib.Core.Path.{_≡_, refl, ap, _∙_}
+use mathlib.Core.Path.{_≡_, refl, sym, ap, _∙_}
 use native.Mathlib.Decide.{le-ind}
 use native.Mathlib.Numerals.{add-one}
 use native.Mathlib.Omega.{arith}
-use Rattle.elements.specs.Kinds.{basin, dam, basinOf, damOf}
+use Rattle.elements.specs.Elements.{elementAt}
+use Rattle.elements.specs.Kinds.{basin, dam, basinOf, damOf, extraTanks}
 use Rattle.elements.proofs.KindLaws.{basin-most, dam-most, basin-counts, dam-counts}
 use Rattle.table.specs.Tables.{TableValues, tableOf}
-use Rattle.table.specs.KindCounts.{countBefore, basinsBefore, damsBefore, basinCount, damCount}
+use Rattle.table.specs.KindCounts.{countBefore, basinsBefore, damsBefore, basinCount, damCount, extraBefore}
 use Rattle.table.specs.InUse.{inUse, tableIn}
 use Rattle.table.proofs.InUseLaws.{element-read}
 
@@ -61,6 +62,29 @@ module _ (t : TableValues) where
 
   pub dam-counted : (i : ℕ) → i < t .elements → t .element i .kind ≡ dam → damsBefore t i < damCount t
   dam-counted i l k = itself-counted damOf t i l (dam-counts _ k .1)
+
+-- the same of tanks above the last of their elements
+module _ (t : TableValues) where
+  pub extra-none : 0 ≡ extraBefore t 0
+  unfolding extraBefore
+  extra-none = refl
+
+  pub extra-more :
+      (i : ℕ) {x one : ℕ} → x ≡ extraBefore t i → one ≡ extraTanks (t .element i) → x + one ≡ extraBefore t (i + 1)
+  unfolding extraBefore
+  extra-more i h k = rw (add-one, h, k)
+
+  pub extra-rise : (i m : ℕ) → i ≤ m → extraBefore t i ≤ extraBefore t m
+  unfolding extraBefore
+  extra-rise i m l = le-ind (λ k. extraBefore t i ≤ extraBefore t k) (omega arith) (λ k _ h. omega arith) m l
+
+-- as a loop over the bytes of a table counts them
+pub extra-read :
+    (bytes : List ℕ) (i : ℕ) {one : ℕ}
+    → i < tableIn bytes .elements
+    → one ≡ extraTanks (elementAt bytes i)
+    → extraBefore (tableIn bytes) i + one ≡ extraBefore (tableIn bytes) (i + 1)
+extra-read bytes i l h = extra-more (tableIn bytes) i refl (h ∙ ap extraTanks (sym (element-read bytes i l)))
 
 -- only the places in use are counted
 module _ (of : ℕ → ℕ) (bytes : List ℕ) where

@@ -16,8 +16,8 @@ use Rattle.refusal.proofs.RuleLaws.{not-both}
 use Rattle.fields.specs.Bytes.{number32}
 use Rattle.fields.proofs.RangeLaws.{both, either}
 use Rattle.elements.specs.Elements.{elementAt}
-use Rattle.elements.specs.Kinds.{basinOf, damOf}
-use Rattle.elements.specs.Bounds.{ElementBounds}
+use Rattle.elements.specs.Kinds.{tanks, basinOf, damOf}
+use Rattle.elements.specs.Bounds.{AcceptedElement}
 use Rattle.gauges.specs.Gauges.{tableVersion, gaugeSize, gaugePlace, gaugeAt}
 use Rattle.gauges.specs.Places.{Versioned, GaugePlaced}
 use Rattle.gauges.specs.Bounds.{GaugeKnown}
@@ -29,9 +29,9 @@ use Rattle.refusal.specs.Verdicts.{verdictAnswer}
 use Rattle.table.specs.Tables.{tableOf}
 use Rattle.table.specs.Rules.{lengthFits, versionFits, sizeFits, tableRules}
 use Rattle.table.specs.Decoded.{CountsHeld, TableRead}
-use Rattle.table.specs.Bounds.{AcceptedTable, Counted, CountedTable}
+use Rattle.table.specs.Bounds.{AcceptedTable, Counted, CountedPlaces, CountedTable}
 use Rattle.table.specs.InUse.{inUse, tableIn}
-use Rattle.table.proofs.InUseLaws.{element-read, gauge-read, bounds-in-use}
+use Rattle.table.proofs.InUseLaws.{element-read, gauge-read, extra-held, bounds-in-use}
 use Rattle.table.proofs.TableLaws.{rules-kept, table-bounds}
 use Rattle.table.proofs.CountLaws.{count-in-use}
 
@@ -83,7 +83,7 @@ module _ (bytes : List ℕ) where
 
 -- an element and a gauge in use: all their bytes are there, and they are in their ranges
 module _ (bytes : List ℕ) (t : AcceptedTable bytes) where
-  pub element-there : {i : ℕ} → i < tableIn bytes .elements → (i ≤ 255) × (26 * i + 36 ≤ length bytes)
+  pub element-there : {i : ℕ} → i < tableIn bytes .elements → (i ≤ 1000) × (26 * i + 36 ≤ length bytes)
   element-there l = (omega (arith, t .bounds .elementsMost), omega (arith, t .elements))
 
   gauge-there : {g : ℕ} → g < tableIn bytes .gauges → GaugePlaced bytes (tableIn bytes .elements) g
@@ -96,8 +96,18 @@ module _ (bytes : List ℕ) (t : AcceptedTable bytes) where
       }
 
   pub element-bounds :
-      {i : ℕ} → i < tableIn bytes .elements → ElementBounds (tableIn bytes .step) (tableIn bytes .elements) i (elementAt bytes i)
+      {i : ℕ} → i < tableIn bytes .elements → AcceptedElement (tableIn bytes .step) (tableIn bytes .elements) i (elementAt bytes i)
   element-bounds {i} l = rw (element-read bytes i l) at (t .bounds .element i l)
+
+-- an element of tanks has 2 to 8
+pub tanks-known :
+    (bytes : List ℕ)
+    → AcceptedTable bytes
+    → {i : ℕ}
+    → i < tableIn bytes .elements
+    → elementAt bytes i .kind ≡ tanks
+    → (2 ≤ elementAt bytes i .runoff) × (elementAt bytes i .runoff ≤ 8)
+tanks-known bytes t l k = element-bounds bytes t l .tanks k
 
 -- the gauges of a table whose counts are known
 module _ (bytes : List ℕ) {n m : ℕ} (t : CountedTable bytes n m) where
@@ -122,7 +132,7 @@ counted-table bytes counts c = record { table = c .table; elements = c .held .el
 -- what an accepted table gives
 pub record TableKnown (bytes : List ℕ) (read : Counts) : Type 0 where
   pub kept : tableRules {A = Unit} bytes (accepted tt) ≡ accepted tt
-  pub counted : Counted bytes read
+  pub counted : CountedPlaces bytes read
 
 module _ (bytes : List ℕ) (r : TableAnswer) (h : TableRead bytes r) where
   pub table-accepted : r .verdict ≡ Accepted → TableKnown bytes (r .counts)
@@ -132,10 +142,13 @@ module _ (bytes : List ℕ) (r : TableAnswer) (h : TableRead bytes r) where
       record {
         kept = kept;
         counted = record {
-          table = accepted-table bytes kept;
-          held = counts-in-use bytes (h .counts kept);
-          basins = h .basins kept ∙ count-in-use basinOf bytes;
-          dams = h .dams kept ∙ count-in-use damOf bytes;
+          counted = record {
+            table = accepted-table bytes kept;
+            held = counts-in-use bytes (h .counts kept);
+            basins = h .basins kept ∙ count-in-use basinOf bytes;
+            dams = h .dams kept ∙ count-in-use damOf bytes;
+          };
+          extra = h .extra kept ∙ extra-held (tableOf bytes) (tableOf bytes .elements) (omega arith);
         };
       }
 
@@ -154,4 +167,5 @@ refused-read bytes r e h =
       counts = λ a. absurd (not-both a h);
       basins = λ a. absurd (not-both a h);
       dams = λ a. absurd (not-both a h);
+      extra = λ a. absurd (not-both a h);
     }

@@ -1,5 +1,5 @@
 -- Laws of the places in use.
-use Prim.Native.Nat.{ℕ, _+_, _<_}
+use Prim.Native.Nat.{ℕ, zero, suc, _+_, _≤_, _<_}
 use mathlib.Core.List.{List}
 use mathlib.Core.Bool.{Bool, true, false, cond}
 use mathlib.Core.Path.{_≡_, refl, fun-ext}
@@ -9,7 +9,8 @@ use lib.Dec.{ltb}
 use Rattle.elements.specs.Elements.{elementAt, noElement}
 use Rattle.gauges.specs.Gauges.{gaugeAt, noGauge}
 use Rattle.table.specs.Tables.{TableValues, tableOf}
-use Rattle.table.specs.Bounds.{TableBounds}
+use Rattle.table.specs.KindCounts.{extraBefore}
+use Rattle.table.specs.Bounds.{AcceptedBounds}
 use Rattle.table.specs.InUse.{below, inUse, tableIn}
 
 module _ {A : Type 0} (n : ℕ) (none : A) where
@@ -37,7 +38,13 @@ module _ (bytes : List ℕ) where
   unfolding tableIn inUse tableOf
   gauge-read g l = below-used _ noGauge _ g l
 
-pub bounds-in-use : (t : TableValues) → TableBounds t → TableBounds (inUse t)
+-- only the places in use are counted
+pub extra-held : (t : TableValues) (i : ℕ) → i ≤ t .elements → extraBefore t i ≡ extraBefore (inUse t) i
+unfolding extraBefore inUse
+extra-held t zero l = refl
+extra-held t (suc i) l = rw (extra-held t i (omega arith), below-used (t .elements) noElement (t .element) i l)
+
+pub bounds-in-use : (t : TableValues) → AcceptedBounds t → AcceptedBounds (inUse t)
 unfolding inUse
 bounds-in-use t b =
     record {
@@ -46,6 +53,8 @@ bounds-in-use t b =
       leadsMost = b .leadsMost;
       elementsLeast = b .elementsLeast;
       elementsMost = b .elementsMost;
+      extraMost = rw (← extra-held t (t .elements) (omega arith)) (b .extraMost);
+      placesMost = rw (← extra-held t (t .elements) (omega arith)) (b .placesMost);
       gaugesMost = b .gaugesMost;
       element = λ i l. rw (below-used _ noElement (t .element) i l) (b .element i l);
       gauge = λ g l. rw (below-used _ noGauge (t .gauge) g l) (b .gauge g l);

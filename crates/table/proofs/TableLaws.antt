@@ -1,16 +1,22 @@
 -- Laws of rules 1 to 7: what follows them decides where they accept, and what callers may then rely on.
 use Prim.{Unit}
-use Prim.Native.Nat.{ℕ, _+_, _≤_}
-use mathlib.Core.Bool.{Bool, true}
+use Prim.Native.Nat.{ℕ, zero, suc, _+_, _*_, _-_, _≤_, _<_}
+use mathlib.Core.Bool.{Bool, true, false, cond}
 use mathlib.Core.List.{List}
-use mathlib.Core.Path.{_≡_, _∙_}
+use mathlib.Core.Path.{_≡_, refl, _∙_}
+use borrow.Author.Tests.{eqb-true}
+use native.Mathlib.Omega.{arith}
+use lib.Dec.{eqb}
 use Rattle.sizes.specs.Sizes.{mostElements, mostLeads, mostGauges}
 use Rattle.refusal.proofs.RuleLaws.{rule-then, then-kept, rule-kept}
 use Rattle.refusal.specs.Answers.{Answer, accepted, refused, andThen, rule}
 use Rattle.fields.specs.Bytes.{byteAt, number16}
 use Rattle.fields.specs.Ranges.{inRange, allBelow}
 use Rattle.fields.proofs.RangeLaws.{all-four, range-bounds, all-at}
+use Rattle.elements.specs.declared.Element.{Element}
 use Rattle.elements.specs.Elements.{elementAt}
+use Rattle.elements.specs.Kinds.{tanks, extraTanks}
+use Rattle.elements.specs.Bounds.{AcceptedElement}
 use Rattle.elements.specs.Rules.{elementFits, downFits}
 use Rattle.elements.proofs.ElementLaws.{element-bounds}
 use Rattle.gauges.specs.Gauges.{gaugeAt}
@@ -18,7 +24,8 @@ use Rattle.gauges.specs.Rules.{gaugeFits}
 use Rattle.gauges.proofs.GaugeLaws.{gauge-bounds, gauge-rises}
 use Rattle.table.specs.Tables.{TableValues, tableOf}
 use Rattle.table.specs.Rules.{lengthFits, versionFits, countsFit, sizeFits, elementsFit, downsFit, gaugesFit, tableRules}
-use Rattle.table.specs.Bounds.{TableBounds}
+use Rattle.table.specs.KindCounts.{extraBefore}
+use Rattle.table.specs.Bounds.{AcceptedBounds}
 
 -- what is made of the answer after the rules
 pub and-then :
@@ -106,19 +113,42 @@ counts-bounds t h =
       gaugesMost = range-bounds _ _ _ (k .1 .1 .1) .1;
     }
 
-pub table-bounds : (bytes : List ℕ) → tableRules {A = Unit} bytes (accepted tt) ≡ accepted tt → TableBounds (tableOf bytes)
+-- no element has more than seven tanks above its last
+extra-few : (e : Element) → (e .kind ≡ tanks → (2 ≤ e .runoff) × (e .runoff ≤ 8)) → extraTanks e ≤ 7
+unfolding extraTanks
+extra-few e h = go (eqb (e .kind) tanks) refl
+  where
+    go : (x : Bool) → eqb (e .kind) tanks ≡ x → cond x (e .runoff - 1) 0 ≤ 7
+    go true k = omega (arith, h (eqb-true _ _ k))
+    go false k = omega arith
+
+extra-most :
+    (t : TableValues)
+    → ((i : ℕ) → i < t .elements → t .element i .kind ≡ tanks → (2 ≤ t .element i .runoff) × (t .element i .runoff ≤ 8))
+    → (n : ℕ)
+    → n ≤ t .elements
+    → extraBefore t n ≤ 7 * n
+unfolding extraBefore
+extra-most t h zero l = omega arith
+extra-most t h (suc n) l = omega (arith, extra-most t h n (omega arith), extra-few (t .element n) (h n l))
+
+pub table-bounds : (bytes : List ℕ) → tableRules {A = Unit} bytes (accepted tt) ≡ accepted tt → AcceptedBounds (tableOf bytes)
 table-bounds bytes h =
     let t = tableOf bytes in
     let k = rules-kept bytes h in
     let n = counts-bounds t (k .header .counts) in
+    let accepted-element : (i : ℕ) → i < t .elements → AcceptedElement (t .step) (t .elements) i (t .element i) =
+    λ i l. element-bounds _ (t .element) i (t .step) (all-at _ _ i l (k .elements)) (all-at _ _ i l (k .downs)) in
     record {
       stepLeast = n .stepLeast;
       leadsLeast = n .leadsLeast;
       leadsMost = n .leadsMost;
       elementsLeast = n .elementsLeast;
       elementsMost = n .elementsMost;
+      extraMost = extra-most t (λ i l. accepted-element i l .tanks) (t .elements) (omega arith);
+      placesMost = omega (arith, n .elementsMost, extra-most t (λ i l. accepted-element i l .tanks) (t .elements) (omega arith));
       gaugesMost = n .gaugesMost;
-      element = λ i l. element-bounds _ (t .element) i (t .step) (all-at _ _ i l (k .elements)) (all-at _ _ i l (k .downs));
+      element = accepted-element;
       gauge = λ g l. gauge-bounds _ _ (t .gauge) g (all-at _ _ g l (k .gauges));
       rising = λ g l. gauge-rises _ _ (t .gauge) g (all-at _ _ (g + 1) l (k .gauges));
     }

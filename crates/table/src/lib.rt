@@ -19,7 +19,8 @@ use sizes::MOST_ELEMENTS;
 use sizes::MOST_GAUGES;
 use sizes::MOST_LEADS;
 
-// The counts of a table: T in minutes, L, N and M, and how many of its elements are basins and dams.
+// The counts of a table: T in minutes, L, N and M, how many of its elements are basins and dams, and how many tanks
+// stand above the last of their elements.
 pub struct Counts {
     pub step: u64,
     pub leads: usize,
@@ -27,6 +28,7 @@ pub struct Counts {
     pub gauges: usize,
     pub basins: usize,
     pub dams: usize,
+    pub extra: usize,
 }
 
 // The counts of a table, where its bytes are accepted.
@@ -74,7 +76,7 @@ pub fn size_fits(table: &[u8]) -> bool
     whole32(table, 0) == 6 + 26 * wide(table[8]) + gauge_size(table) as u64 * wide(table[9])
 }
 
-// The counts that the header says; basins and dams are not counted yet.
+// The counts that the header says; basins, dams and extra tanks are not counted yet.
 pub fn counts_of(table: &[u8]) -> Counts
     requires { ⌜ 10 ≤ length (now table) ⌝ }
     ensures { λ r. ⌜ CountsHeld r (tableOf (now (table .entry))) ⌝ }
@@ -86,10 +88,11 @@ pub fn counts_of(table: &[u8]) -> Counts
         gauges: wide(table[9]) as usize,
         basins: 0,
         dams: 0,
+        extra: 0,
     }
 }
 
-// The counts of an accepted table with so many basins and dams.
+// The counts of an accepted table with so many basins and dams; its extra tanks are not counted.
 pub fn counts_with(table: &[u8], basins: usize, dams: usize) -> Counts
     requires { ⌜ AcceptedTable (now table) × ((basins ≡ basinCount (tableIn (now table))) × (dams ≡ damCount (tableIn (now table)))) ⌝ }
     ensures { λ r. ⌜ Counted (now (table .entry)) r ⌝ }
@@ -102,5 +105,6 @@ pub fn counts_with(table: &[u8], basins: usize, dams: usize) -> Counts
         gauges: header.gauges,
         basins,
         dams,
+        extra: 0,
     }
 }

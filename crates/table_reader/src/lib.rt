@@ -13,18 +13,38 @@ use down_rules::down_fits;
 use element_rules::JudgedElement;
 use element_rules::judge_element;
 use elements::element_at;
+use elements::extra_at;
 use refusal::Refusal;
 use refusal::Verdict;
 use table::Counts;
 use table::TableAnswer;
 
-// What rules 5 and 6 say of the elements: whether all keep rule 5 and, where they do, whether all keep rule 6, and how many are basins
-// and dams.
+// What rules 5 and 6 say of the elements: whether all keep rule 5 and, where they do, whether all keep rule 6, how many are basins and
+// dams, and how many tanks stand above the last of their elements.
 struct ElementsJudged {
     fit: bool,
     later: bool,
     basins: usize,
     dams: usize,
+    extra: usize,
+}
+
+fn elements_judged(
+    fit: bool,
+    later: bool,
+    basins: usize,
+    dams: usize,
+    extra: usize,
+) -> ElementsJudged
+    ensures { λ r. ⌜ r ≡ record { fit = fit; later = later; basins = basins; dams = dams; extra = extra } ⌝ }
+{
+    ElementsJudged {
+        fit,
+        later,
+        basins,
+        dams,
+        extra,
+    }
 }
 
 // Rules 5 and 6 on the first n elements, each element once.
@@ -35,16 +55,12 @@ fn judge_elements(table: &[u8], step: u64, n: usize) -> ElementsJudged
     let mut later = true;
     let mut basins: usize = 0;
     let mut dams: usize = 0;
+    let mut extra: usize = 0;
     for i in 0..n {
         let judged = judge_element(step, element_at(table, i));
         match judged {
             JudgedElement::Refused => {
-                return ElementsJudged {
-                    fit: false,
-                    later,
-                    basins,
-                    dams,
-                };
+                return elements_judged(false, later, basins, dams, extra);
             }
             JudgedElement::Basin => {
                 basins += 1;
@@ -53,17 +69,15 @@ fn judge_elements(table: &[u8], step: u64, n: usize) -> ElementsJudged
             JudgedElement::Dam => {
                 dams += 1;
             }
+            JudgedElement::Tanks => {
+                extra += extra_at(table, i);
+            }
         }
         if !down_fits(table, n, i) {
             later = false;
         }
     }
-    ElementsJudged {
-        fit: true,
-        later,
-        basins,
-        dams,
-    }
+    elements_judged(true, later, basins, dams, extra)
 }
 
 // A refused table, whose counts nobody reads.
@@ -76,7 +90,8 @@ fn refused(counts: Counts, refusal: Refusal) -> TableAnswer
     }
 }
 
-// Rules 2 to 7 in checking order, where rule 1 is kept; the counts of the header, with basins and dams.
+// Rules 2 to 7 in checking order, where rule 1 is kept; the counts of the header, with basins, dams and
+// extra tanks.
 fn judge(table: &[u8], counts: Counts) -> TableAnswer
     requires { ⌜ (lengthFits (now table) ≡ true) × CountsHeld counts (tableOf (now table)) ⌝ }
     ensures { λ r. ⌜ TableRead (now (table .entry)) r ⌝ }
@@ -110,6 +125,7 @@ fn judge(table: &[u8], counts: Counts) -> TableAnswer
             gauges: counts.gauges,
             basins: elements.basins,
             dams: elements.dams,
+            extra: elements.extra,
         },
     }
 }
@@ -126,6 +142,7 @@ pub fn read(table: &[u8]) -> TableAnswer
             gauges: 0,
             basins: 0,
             dams: 0,
+            extra: 0,
         };
         return refused(none, Refusal::TableLength);
     }

@@ -2,7 +2,7 @@
 use mathlib.Core.Path.{sym}
 use borrow.Author.Needs.{needs}
 use Rattle.elements.specs.Kinds.{basinOf}
-use Rattle.elements.proofs.KindLaws.{by-basin, by-reach, by-dam, by-none}
+use Rattle.elements.proofs.KindLaws.{by-basin, by-reach, by-dam, by-tanks, by-none}
 use Rattle.elements.proofs.basin_of.Statement.{statement}
 use Rattle.elements.proofs.basin_of.Tie as tie
 
@@ -20,7 +20,11 @@ returns-3 c = (sym (by-dam _ _ _ _ _ (c .match .keys3)), search needs)
 
 returns-4 : tie.Need-returns-4
 unfolding basinOf
-returns-4 c = (sym (by-none _ _ _ _ _ (c .match .rest .0 .0 .1) (c .match .rest .0 .1) (c .match .rest .1)), search needs)
+returns-4 c = (sym (by-tanks _ _ _ _ _ (c .match .keys4)), search needs)
+
+returns-5 : tie.Need-returns-5
+unfolding basinOf
+returns-5 c = (sym (by-none _ _ _ _ _ (c .match .rest .0 .0 .0 .1) (c .match .rest .0 .0 .1) (c .match .rest .0 .1)), search needs)
 
 pub basin-of-spec : {M : Type 1} → statement M
-basin-of-spec = tie.close (tie.spec returns returns-2 returns-3 returns-4)
+basin-of-spec = tie.close (tie.spec returns returns-2 returns-3 returns-4 returns-5)

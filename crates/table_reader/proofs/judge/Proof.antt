@@ -2,7 +2,7 @@
 use Prim.{Unit}
 use Prim.Native.Nat.{ℕ, _≤_}
 use mathlib.Core.Bool.{true}
-use mathlib.Core.Path.{_≡_, sym, subst₂}
+use mathlib.Core.Path.{_≡_, sym, ap, subst₂, _∙_}
 use borrow.Author.Needs.{needs}
 use borrow.Author.Tests.{not-false}
 use mathlib.Core.List.{List}
@@ -14,6 +14,7 @@ use Rattle.gauges.specs.Gauges.{gaugePlace}
 use Rattle.gauges.specs.Places.{Versioned}
 use Rattle.table.specs.declared.Counts.{Counts}
 use Rattle.table.specs.Tables.{tableOf}
+use Rattle.table.specs.KindCounts.{extraBefore}
 use Rattle.table.specs.Rules.{elementsFit, downsFit, gaugesFit, tableRules}
 use Rattle.table.proofs.TableLaws.{
   HeaderKept,
@@ -191,6 +192,7 @@ returns-7 c =
       counts = λ _. record { step = held .step; leads = held .leads; elements = held .elements; gauges = held .gauges };
       basins = λ _. all-counted basinOf _ (held .elements) (j .judge-elements .ensures .basins (not-false _ (four .if4 .left)));
       dams = λ _. all-counted damOf _ (held .elements) (j .judge-elements .ensures .dams (not-false _ (four .if4 .left)));
+      extra = λ _. j .judge-elements .ensures .extra (not-false _ (four .if4 .left)) ∙ ap (extraBefore _) (held .elements);
     }
 
 pub judge-spec : {M : Type 1} → statement M

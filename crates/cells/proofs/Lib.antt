@@ -1,0 +1,4 @@
+pub mod CellLaws
+pub mod BoundsLaws
+pub mod CountLaws
+pub mod DrainLaws
