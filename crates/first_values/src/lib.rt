@@ -1,12 +1,14 @@
 // The state that a start leaves.
 ghost use mathlib.Core.Path.{_≡_};
-ghost use Prim.Native.Nat.{_<_};
-ghost use Rattle.sizes.specs.Sizes.{mostElements};
+ghost use Prim.Native.Nat.{_+_, _≤_, _<_};
+ghost use Rattle.sizes.specs.Sizes.{mostPlaces};
 ghost use Rattle.table.specs.Bounds.{AcceptedTable};
 ghost use Rattle.table.specs.InUse.{tableIn};
+ghost use Rattle.state.specs.States.{changed, figuresPut};
 ghost use Rattle.state.specs.Start.{firstFigures, firstPut, started};
 use elements::Element;
 use elements::element_at;
+use elements::extra_of;
 use method::Figures;
 use sizes::STATE_NUMBERS;
 use state::Rains;
@@ -31,7 +33,7 @@ fn first_figures(e: Element) -> Figures
 
 // The place of element i at the start: its first values, and a basin's rains 0.
 fn put_first(state: &mut [u64; STATE_NUMBERS], i: usize, e: Element)
-    requires { ⌜ i < mostElements ⌝ }
+    requires { ⌜ i < mostPlaces ⌝ }
     ensures { λ _. ⌜ now (state .exit) ≡ firstPut e i (now (state .entry)) ⌝ }
 {
     let kind = e.kind;
@@ -45,9 +47,18 @@ fn put_first(state: &mut [u64; STATE_NUMBERS], i: usize, e: Element)
             };
             put_rains(&mut *state, i, dry);
         }
-        elements::REACH => {}
-        elements::DAM => {}
+        elements::REACH | elements::DAM | elements::TANKS => {}
         _ => {}
+    }
+}
+
+// The places of the tanks above an element's last, so many from place x on: the same figures.
+fn put_tanks(state: &mut [u64; STATE_NUMBERS], x: usize, extra: usize, figures: Figures)
+    requires { ⌜ x + extra ≤ mostPlaces ⌝ }
+    ensures { λ _. ⌜ now (state .exit) ≡ changed (figuresPut (λ _. figures) x) extra (now (state .entry)) ⌝ }
+{
+    for j in 0..extra {
+        put_figures(&mut *state, x + j, figures);
     }
 }
 
@@ -56,8 +67,13 @@ pub fn start_on(table: &[u8], n: usize, state: &mut [u64; STATE_NUMBERS])
     requires { ⌜ AcceptedTable (now table) × (n ≡ tableIn (now table) .elements) ⌝ }
     ensures { λ _. ⌜ now (state .exit) ≡ started (tableIn (now (table .entry))) (now (state .entry)) ⌝ }
 {
+    let mut x = n;
     for i in 0..n {
-        put_first(&mut *state, i, element_at(table, i));
+        let element = element_at(table, i);
+        let extra = extra_of(table, i);
+        put_tanks(&mut *state, x, extra, first_figures(element));
+        put_first(&mut *state, i, element);
+        x += extra;
     }
     state[0] = n as u64;
     state[1] = 0;

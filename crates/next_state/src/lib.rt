@@ -7,7 +7,7 @@ ghost use Rattle.elements.specs.Kinds.{basin};
 ghost use Rattle.record.specs.Records.{rainAt};
 ghost use Rattle.state.specs.States.{rainsOf, putPlace};
 ghost use Rattle.element_step.specs.Rains.{shiftedRains};
-ghost use Rattle.next_state.specs.Written.{WriteReady, StateWritten};
+ghost use Rattle.next_state.specs.Written.{TanksReady, TanksWritten, WriteReady, ElementsWritten};
 use answer_space::figures_at;
 use element_step::shifted_rains;
 use elements::basin_of;
@@ -37,10 +37,7 @@ fn put_step(
             put_figures(&mut *state, i, figures);
             put_rains(&mut *state, i, rains);
         }
-        elements::REACH => {
-            put_figures(&mut *state, i, figures);
-        }
-        elements::DAM => {
+        elements::REACH | elements::DAM | elements::TANKS => {
             put_figures(&mut *state, i, figures);
         }
         _ => {
@@ -49,7 +46,18 @@ fn put_step(
     }
 }
 
-// The state after the step, with the figures that stand in the working space.
+// The places of the tanks above the last of their elements, from place n on, with the figures that stand in the working space.
+pub fn write_tanks(n: usize, extra: usize, space: &[u64], state: &mut [u64; STATE_NUMBERS])
+    requires { ⌜ TanksReady n extra (now space) ⌝ }
+    ensures { λ _. ⌜ TanksWritten n extra (now (space .entry)) (now (state .entry)) (now (state .exit)) ⌝ }
+{
+    for x in 0..extra {
+        put_figures(&mut *state, n + x, figures_at(space, n + x + 1));
+    }
+}
+
+// The places of the elements, with the figures that stand in the working space, and the step counted: with the tanks written before it, the
+// state after the step.
 pub fn write_state(
     table: &[u8],
     n: usize,
@@ -58,7 +66,7 @@ pub fn write_state(
     state: &mut [u64; STATE_NUMBERS],
 )
     requires { ⌜ WriteReady (now table) n (now bytes) (now space) (now state) ⌝ }
-    ensures { λ _. ⌜ StateWritten (now (table .entry)) (now (bytes .entry)) (now (state .entry)) (now (state .exit)) ⌝ }
+    ensures { λ _. ⌜ ElementsWritten (now (table .entry)) (now (bytes .entry)) (now (space .entry)) (now (state .entry)) (now (state .exit)) ⌝ }
 {
     let mut b: usize = 0;
     for i in 0..n {

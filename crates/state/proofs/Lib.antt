@@ -1,3 +1,4 @@
 pub mod StateLaws
 pub mod BoundsLaws
 pub mod AnswerLaws
+pub mod PartsLaws

@@ -4,8 +4,9 @@ use mathlib.Core.Path.{_≡_}
 use Rattle.method.specs.Figures.{FiguresFit}
 use Rattle.elements.specs.Kinds.{basin}
 use Rattle.table.specs.Tables.{TableValues}
+use Rattle.cells.specs.Cells.{cells}
 use Rattle.state.specs.declared.Rains.{Rains}
-use Rattle.state.specs.States.{State, elementsOf, stepsOf, figuresOf, rainsOf}
+use Rattle.state.specs.States.{State, elementsOf, stepsOf, cellFigures, cellRains}
 
 -- the rains of a basin
 pub record RainsUnder (rains : Rains) : Type 0 where
@@ -16,5 +17,5 @@ pub record RainsUnder (rains : Rains) : Type 0 where
 pub record StateBounds (t : TableValues) (s : State) : Type 0 where
   pub elements : elementsOf s ≡ t .elements
   pub steps : stepsOf s ≤ 10000
-  pub figures : (i : ℕ) → i < t .elements → FiguresFit (figuresOf s i)
-  pub rains : (i : ℕ) → i < t .elements → t .element i .kind ≡ basin → RainsUnder (rainsOf s i)
+  pub figures : (c : ℕ) → c < cells t .elements → FiguresFit (cellFigures t s c)
+  pub rains : (c : ℕ) → c < cells t .elements → cells t .element c .kind ≡ basin → RainsUnder (cellRains t s c)

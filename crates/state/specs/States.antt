@@ -7,6 +7,8 @@ use Rattle.sizes.specs.Sizes.{placeNumbers}
 use Rattle.units.specs.Units.{grains, thousandths}
 use Rattle.method.specs.declared.Figures.{Figures}
 use Rattle.elements.specs.Kinds.{byKind}
+use Rattle.table.specs.Tables.{TableValues}
+use Rattle.cells.specs.Cells.{cellPlace}
 use Rattle.state.specs.declared.Rains.{Rains}
 
 abbrev pub State : Type 0
@@ -42,6 +44,13 @@ rainsOf s i =
       third = getD s (placeStart i + 6) 0;
     }
 
+-- of cell c of a river
+abbrev pub cellFigures : TableValues → State → ℕ → Figures
+cellFigures t s c = figuresOf s (cellPlace t c)
+
+abbrev pub cellRains : TableValues → State → ℕ → Rains
+cellRains t s c = rainsOf s (cellPlace t c)
+
 -- what the state keeps of one element
 pub record ElementState : Type 0 where
   pub figures : Figures
@@ -76,6 +85,10 @@ putPlace kind f r i s = byKind kind (putRains (putFigures s i f) i r) (putFigure
 unfoldable pub changed : (ℕ → State → State) → ℕ → State → State
 changed change zero s = s
 changed change (suc n) s = change n (changed change n s)
+
+-- figures at places from x on: number j of them at place x + j
+abbrev pub figuresPut : (ℕ → Figures) → ℕ → ℕ → State → State
+figuresPut f x j s = putFigures s (x + j) (f j)
 
 abbrev pub noRains : Rains
 noRains = record { first = 0; second = 0; third = 0 }

@@ -3,7 +3,7 @@
 ghost use mathlib.Core.Path.{_≡_};
 ghost use Prim.Native.Nat.{_<_};
 ghost use lib.ListN.{length};
-ghost use Rattle.sizes.specs.Sizes.{mostElements, stateNumbers};
+ghost use Rattle.sizes.specs.Sizes.{mostPlaces, stateNumbers};
 ghost use Rattle.state.specs.States.{figuresOf, rainsOf, placeOf, putFigures, putRains};
 ghost use Rattle.state.specs.Rules.{figuresFit, rainsFit, placeFits, stepsLeft};
 use method::Figures;
@@ -21,7 +21,7 @@ pub struct Rains {
 
 // The figures of element i, counted from 0.
 pub fn figures_of(state: &[u64; STATE_NUMBERS], i: usize) -> Figures
-    requires { ⌜ i < mostElements ⌝ }
+    requires { ⌜ i < mostPlaces ⌝ }
     ensures { λ r. ⌜ r ≡ figuresOf (now (state .entry)) i ⌝ }
 {
     let at = PLACE_NUMBERS * i + 2;
@@ -35,7 +35,7 @@ pub fn figures_of(state: &[u64; STATE_NUMBERS], i: usize) -> Figures
 
 // The discharge of element i alone.
 pub fn discharge_of(state: &[u64; STATE_NUMBERS], i: usize) -> Discharge
-    requires { ⌜ i < mostElements ⌝ }
+    requires { ⌜ i < mostPlaces ⌝ }
     ensures { λ r. ⌜ r ≡ figuresOf (now (state .entry)) i .discharge ⌝ }
 {
     Discharge(state[PLACE_NUMBERS * i + 2])
@@ -43,7 +43,7 @@ pub fn discharge_of(state: &[u64; STATE_NUMBERS], i: usize) -> Discharge
 
 // The rains of element i.
 pub fn rains_of(state: &[u64; STATE_NUMBERS], i: usize) -> Rains
-    requires { ⌜ i < mostElements ⌝ }
+    requires { ⌜ i < mostPlaces ⌝ }
     ensures { λ r. ⌜ r ≡ rainsOf (now (state .entry)) i ⌝ }
 {
     let at = PLACE_NUMBERS * i + 2;
@@ -56,7 +56,7 @@ pub fn rains_of(state: &[u64; STATE_NUMBERS], i: usize) -> Rains
 
 // Other figures of element i.
 pub fn put_figures(state: &mut [u64; STATE_NUMBERS], i: usize, f: Figures)
-    requires { ⌜ i < mostElements ⌝ }
+    requires { ⌜ i < mostPlaces ⌝ }
     ensures { λ _. ⌜ now (state .exit) ≡ putFigures (now (state .entry)) i f ⌝ }
 {
     let at = PLACE_NUMBERS * i + 2;
@@ -72,7 +72,7 @@ pub fn put_figures(state: &mut [u64; STATE_NUMBERS], i: usize, f: Figures)
 
 // Other rains of element i.
 pub fn put_rains(state: &mut [u64; STATE_NUMBERS], i: usize, r: Rains)
-    requires { ⌜ i < mostElements ⌝ }
+    requires { ⌜ i < mostPlaces ⌝ }
     ensures { λ _. ⌜ now (state .exit) ≡ putRains (now (state .entry)) i r ⌝ }
 {
     let at = PLACE_NUMBERS * i + 2;
@@ -81,7 +81,8 @@ pub fn put_rains(state: &mut [u64; STATE_NUMBERS], i: usize, r: Rains)
     state[at + 6] = r.third;
 }
 
-fn figures_fit(f: Figures) -> bool
+// Rule 8 on the figures of a place.
+pub fn figures_fit(f: Figures) -> bool
     ensures { λ r. ⌜ r ≡ figuresFit f ⌝ }
 {
     let q = f.discharge;
@@ -114,7 +115,7 @@ fn rains_fit(r: Rains) -> bool
 
 // Rule 8 on the place of element i: the rains of a basin alone are read.
 pub fn place_fits(state: &[u64; STATE_NUMBERS], i: usize, kind: u64) -> bool
-    requires { ⌜ i < mostElements ⌝ }
+    requires { ⌜ i < mostPlaces ⌝ }
     ensures { λ r. ⌜ r ≡ placeFits kind (placeOf (now (state .entry)) i) ⌝ }
 {
     if !figures_fit(figures_of(state, i)) {
@@ -122,8 +123,7 @@ pub fn place_fits(state: &[u64; STATE_NUMBERS], i: usize, kind: u64) -> bool
     }
     match kind {
         elements::BASIN => rains_fit(rains_of(state, i)),
-        elements::REACH => true,
-        elements::DAM => true,
+        elements::REACH | elements::DAM | elements::TANKS => true,
         _ => false,
     }
 }

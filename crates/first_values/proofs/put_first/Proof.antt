@@ -1,9 +1,10 @@
 -- `put_first` meets its contract.
 use borrow.Author.Needs.{needs}
 use mathlib.Core.Path.{sym}
-use Rattle.elements.proofs.KindLaws.{by-basin, by-reach, by-dam, by-none}
+use Rattle.elements.proofs.KindLaws.{by-basin}
 use Rattle.state.specs.States.{putPlace}
 use Rattle.state.specs.Start.{firstPut}
+use Rattle.state.proofs.StateLaws.{other-put}
 use Rattle.first_values.proofs.put_first.Statement.{statement}
 use Rattle.first_values.proofs.put_first.Tie as tie
 
@@ -21,18 +22,22 @@ unfolding firstPut putPlace
 returns c = rw (c .put-rains .ensures, c .before .before .before .put-figures .ensures, c .before .before .before .before .first-figures .ensures) (sym (by-basin _ _ _ _ _ (c .before .before .match .keys1)))
 
 returns-2 : tie.Need-returns-2
-unfolding firstPut putPlace
-returns-2 c = rw (c .before .put-figures .ensures, c .before .before .first-figures .ensures) (sym (by-reach _ _ _ _ _ (c .match .keys2)))
+unfolding firstPut
+returns-2 c =
+    let m = c .before in
+    rw (m .before .put-figures .ensures, m .before .before .first-figures .ensures) (other-put _ _ _ _ _ (m .match .rest .1))
 
 returns-3 : tie.Need-returns-3
-unfolding firstPut putPlace
-returns-3 c = rw (c .before .put-figures .ensures, c .before .before .first-figures .ensures) (sym (by-dam _ _ _ _ _ (c .match .keys3)))
+unfolding firstPut
+returns-3 c =
+    let m = c .before .before in
+    rw (m .before .put-figures .ensures, m .before .before .first-figures .ensures) (other-put _ _ _ _ _ (m .match .rest .1))
 
 returns-4 : tie.Need-returns-4
-unfolding firstPut putPlace
+unfolding firstPut
 returns-4 c =
-    rw (c .before .put-figures .ensures, c .before .before .first-figures .ensures)
-    (sym (by-none _ _ _ _ _ (c .match .rest .0 .0 .1) (c .match .rest .0 .1) (c .match .rest .1)))
+    let m = c .before .before in
+    rw (m .before .put-figures .ensures, m .before .before .first-figures .ensures) (other-put _ _ _ _ _ (m .match .rest .1))
 
 pub put-first-spec : {M : Type 1} → statement M
 put-first-spec =

@@ -1,8 +1,9 @@
 -- `put_step` meets its contract.
 use borrow.Author.Needs.{needs}
 use mathlib.Core.Path.{sym, _∙_}
-use Rattle.elements.proofs.KindLaws.{by-basin, by-reach, by-dam, by-none}
+use Rattle.elements.proofs.KindLaws.{by-basin}
 use Rattle.state.specs.States.{putPlace}
+use Rattle.state.proofs.StateLaws.{other-put}
 use Rattle.next_state.proofs.put_step.Statement.{statement}
 use Rattle.next_state.proofs.put_step.Tie as tie
 
@@ -27,9 +28,6 @@ put-figures-requires-2 c κs = search needs
 put-figures-requires-3 : tie.Need-put-figures-requires-3
 put-figures-requires-3 c κs = search needs
 
-put-figures-requires-4 : tie.Need-put-figures-requires-4
-put-figures-requires-4 c κs = search needs
-
 returns : tie.Need-returns
 unfolding putPlace
 returns c =
@@ -38,18 +36,12 @@ returns c =
     rw (c .put-rains .ensures, f .put-figures .ensures, r .shifted-rains .ensures, r .before .rains-of .ensures, r .before .before .before .rain-at .ensures) (sym (by-basin _ _ _ _ _ (r .before .before .before .before .match .keys1)))
 
 returns-2 : tie.Need-returns-2
-unfolding putPlace
-returns-2 c = c .put-figures2 .ensures ∙ sym (by-reach _ _ _ _ _ (c .before .before .match .keys2))
+returns-2 c =
+    let m = c .before .before .before .before in
+    c .put-figures2 .ensures ∙ other-put _ _ _ _ _ (m .match .rest .1)
 
 returns-3 : tie.Need-returns-3
-unfolding putPlace
-returns-3 c = c .put-figures3 .ensures ∙ sym (by-dam _ _ _ _ _ (c .before .before .match .keys3))
-
-returns-4 : tie.Need-returns-4
-unfolding putPlace
-returns-4 c =
-    let rest = c .before .before .match .rest in
-    c .put-figures4 .ensures ∙ sym (by-none _ _ _ _ _ (rest .0 .0 .1) (rest .0 .1) (rest .1))
+returns-3 c = c .put-figures3 .ensures ∙ other-put _ _ _ _ _ (c .before .before .before .match .rest .1)
 
 pub put-step-spec : {M : Type 1} → statement M
 put-step-spec =
@@ -62,8 +54,6 @@ put-step-spec =
     put-rains-requires
     put-figures-requires-2
     put-figures-requires-3
-    put-figures-requires-4
     returns
     returns-2
-    returns-3
-    returns-4)
+    returns-3)

@@ -1,6 +1,6 @@
 -- `write_state` meets its contract.
 use Prim.Native.Nat.{_≤_, _<_, _-_}
-use mathlib.Core.Path.{_≡_, _∙_}
+use mathlib.Core.Path.{_≡_}
 use borrow.Author.Needs.{needs}
 use native.Mathlib.Omega.{arith}
 use Rattle.sizes.specs.Sizes.{mostElements}
@@ -19,7 +19,7 @@ use Rattle.next_state.proofs.write_state.Tie as tie
 abbrev Inv-loop : tie.InvT-loop
 Inv-loop table n bytes space state₀ b₀ i₀ state b i =
     (i ≤ n)
-    × (((b ≡ basinsBefore (tableIn table) i) × (b ≤ i)) × (state ≡ changed (change table bytes state₀) i state₀))
+    × (((b ≡ basinsBefore (tableIn table) i) × (b ≤ i)) × (state ≡ changed (change table bytes space state₀) i state₀))
 
 abbrev μ-loop : tie.MeasureT-loop
 μ-loop table n bytes space state₀ b₀ i₀ state b i = n - i
@@ -78,7 +78,7 @@ loop-again c =
       omega (arith, l .loop-test .taken),
       (
         (count-more basinOf _ _ (inv .0 .0) (c .basin-of .ensures .0) (kind-read _ _ (used l) is), omega (arith, inv .0 .1, c .basin-of .ensures .1)),
-        written-again _ _ _ _ (used l) (inv .1) is (inv .0 .0) (s .before .figures-at .ensures ∙ start l .pre .held .at _ (used l)) (s .put-step .ensures),
+        written-again _ _ _ _ _ (used l) (inv .1) is (inv .0 .0) (s .before .figures-at .ensures) (s .put-step .ensures),
       ),
     )
 
@@ -89,7 +89,7 @@ add-state : tie.Need-add-state Inv-loop μ-loop
 add-state c =
     let l = c .before .before in
     let s = l .before .before .before .before in
-    omega (arith, written-steps _ _ _ (l .loop .i) (l .loop .inv .1 .1), s .pre .state .steps)
+    omega (arith, written-steps _ _ _ _ (l .loop .i) (l .loop .inv .1 .1), s .pre .steps)
 
 element-write-state : tie.Need-element-write-state Inv-loop μ-loop
 element-write-state c = search needs
@@ -98,7 +98,7 @@ returns : tie.Need-returns Inv-loop μ-loop
 returns c =
     let l = c .before .before in
     let s = l .before .before .before .before in
-    written-done _ _ _ _ _ (omega (arith, s .pre .elements)) (l .loop .inv .1 .1) (written-steps _ _ _ _ (l .loop .inv .1 .1))
+    written-done _ _ _ _ _ _ (omega (arith, s .pre .elements)) (l .loop .inv .1 .1) (written-steps _ _ _ _ _ (l .loop .inv .1 .1))
 
 pub write-state-spec : {M : Type 1} → statement M
 write-state-spec =

@@ -1,11 +1,12 @@
 -- `place_fits` meets its contract.
 use borrow.Author.Needs.{needs}
 use borrow.Author.Tests.{not-true, not-false}
-use mathlib.Core.Bool.{Bool, true, false}
-use mathlib.Core.Path.{_≡_, refl, sym, ap, _∙_}
-use Rattle.elements.proofs.KindLaws.{by-basin, by-reach, by-dam, by-none, kind-cases}
+use mathlib.Core.Bool.{true}
+use mathlib.Core.Path.{_≡_, sym, ap, _∙_}
+use native.Mathlib.Omega.{arith}
 use Rattle.state.specs.States.{figuresOf, placeOf}
-use Rattle.state.specs.Rules.{figuresFit, placeFits}
+use Rattle.state.specs.Rules.{figuresFit, rainsFit}
+use Rattle.state.proofs.BoundsLaws.{basin-place, other-place, none-place, no-figures-fit}
 use Rattle.state.proofs.place_fits.Statement.{statement}
 use Rattle.state.proofs.place_fits.Tie as tie
 
@@ -23,10 +24,9 @@ figures-fit-requires : tie.Need-figures-fit-requires
 figures-fit-requires c κs = search needs
 
 returns : tie.Need-returns
-unfolding placeFits placeOf
+unfolding placeOf
 returns c =
-    rw (sym (figures (c .before)) ∙ not-true _ (c .if1 .taken))
-    (kind-cases (λ (fit : Bool). false ≡ fit) _ (λ _. refl) (λ _. refl) (λ _. refl) (λ _ _ _. refl))
+    sym (no-figures-fit _ _ (sym (figures (c .before)) ∙ not-true _ (c .if1 .taken)))
 
 rains-of-requires : tie.Need-rains-of-requires
 rains-of-requires c κs = search needs
@@ -39,22 +39,24 @@ fitting : (c : tie.Else1) → let s = c .before .before .before in figuresFit (f
 fitting c = sym (figures (c .before)) ∙ not-false _ (c .if1 .left)
 
 returns-2 : tie.Need-returns-2
-unfolding placeFits placeOf
+unfolding placeOf
 returns-2 c =
     let m = c .before .before in
-    rw (c .rains-fit .ensures, c .before .rains-of .ensures, fitting (m .before)) (sym (by-basin _ _ _ _ _ (m .match .keys1)))
+    c .rains-fit .ensures
+    ∙ (ap rainsFit (c .before .rains-of .ensures) ∙ sym (basin-place _ _ (m .match .keys1) ∙ rw (fitting (m .before))))
 
 returns-3 : tie.Need-returns-3
-unfolding placeFits placeOf
-returns-3 c = rw (fitting (c .before)) (sym (by-reach _ _ _ _ _ (c .match .keys2)))
+unfolding placeOf
+returns-3 c =
+    sym (other-place _ _ (omega (arith, c .before .if2 .left)) (omega (arith, c .if3 .taken)) ∙ fitting (c .before .before .before))
 
 returns-4 : tie.Need-returns-4
-unfolding placeFits placeOf
-returns-4 c = rw (fitting (c .before)) (sym (by-dam _ _ _ _ _ (c .match .keys3)))
+unfolding placeOf
+returns-4 c = sym (none-place _ _ (c .before .match .rest .1) (λ e. omega (arith, e, c .if2 .taken)) (λ e. omega (arith, e, c .if2 .taken)) (λ e. omega (arith, e, c .if2 .taken)))
 
 returns-5 : tie.Need-returns-5
-unfolding placeFits
-returns-5 c = sym (by-none _ _ _ _ _ (c .match .rest .0 .0 .1) (c .match .rest .0 .1) (c .match .rest .1))
+unfolding placeOf
+returns-5 c = sym (none-place _ _ (c .before .before .match .rest .1) (λ e. omega (arith, e, c .if3 .left)) (λ e. omega (arith, e, c .if3 .left)) (λ e. omega (arith, e, c .if3 .left)))
 
 pub place-fits-spec : {M : Type 1} → statement M
 place-fits-spec =

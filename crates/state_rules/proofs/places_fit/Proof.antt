@@ -5,7 +5,7 @@ use mathlib.Core.Path.{_≡_, sym, _∙_}
 use borrow.Author.Needs.{needs}
 use borrow.Author.Tests.{not-true, not-false}
 use native.Mathlib.Omega.{arith}
-use Rattle.sizes.specs.Sizes.{mostElements}
+use Rattle.sizes.specs.Sizes.{mostPlaces}
 use Rattle.fields.specs.Ranges.{allBelow}
 use Rattle.fields.proofs.RangeLaws.{all-none, all-more, all-fails}
 use Rattle.table.specs.InUse.{tableIn}
@@ -27,7 +27,7 @@ start c = c .before .before .before
 used : (c : tie.In-loop Inv-loop μ-loop) → c .before .loop .i < tableIn (start c .args .table .now) .elements
 used c = omega (arith, start c .pre .1)
 
-within : (c : tie.In-loop Inv-loop μ-loop) → c .before .loop .i < mostElements
+within : (c : tie.In-loop Inv-loop μ-loop) → c .before .loop .i < mostPlaces
 within c = omega (arith, used c, start c .pre .0 .bounds .elementsMost)
 
 -- and what is found of its place is the test of it
