@@ -6,10 +6,11 @@ use Rattle.refusal.specs.Answers.{accepted}
 use Rattle.method.specs.declared.Figures.{Figures}
 use Rattle.table.specs.Tables.{TableValues}
 use Rattle.table.specs.InUse.{tableIn}
-use Rattle.table.specs.Bounds.{TableBounds}
+use Rattle.table.specs.Bounds.{AcceptedBounds}
 use Rattle.table.proofs.InUseLaws.{bounds-in-use}
 use Rattle.table.proofs.TableLaws as table-laws
 use Rattle.record.specs.Records.{inputAt}
+use Rattle.cells.specs.Cells.{cells}
 use Rattle.state.specs.States.{State}
 use Rattle.state.specs.Start.{started}
 use Rattle.network.specs.Step.{stepped}
@@ -20,7 +21,7 @@ use Rattle.entries.proofs.ForecastLaws.{Forecasting, forecasting-on}
 
 -- an accepted start
 pub record Starting (t : TableValues) (any s : State) : Type 0 where
-  pub bounds : TableBounds t
+  pub bounds : AcceptedBounds t
   pub state : s ≡ started t any
 
 pub starting : (table : List ℕ) (any s : State) → startAnswer table any ≡ accepted s → Starting (tableIn table) any s
@@ -33,7 +34,7 @@ starting table any s h =
 pub stepping :
     (table bytes : List ℕ) (s next : State)
     → stepAnswer table bytes s ≡ accepted next
-    → Stepping (tableIn table) bytes s × (next ≡ stepped (tableIn table) (inputAt (tableIn table) bytes) s)
+    → Stepping (tableIn table) bytes s × (next ≡ stepped (tableIn table) (inputAt (cells (tableIn table)) bytes) s)
 unfolding stepAnswer
 stepping table bytes s next h = stepping-on (tableIn table) bytes s next (table-laws.table-kept table _ h .1)
 

@@ -8,7 +8,8 @@ use Rattle.method.specs.declared.Figures.{Figures}
 use Rattle.exact.specs.Exact.{ExactFigures}
 use Rattle.table.specs.Tables.{TableValues}
 use Rattle.table.specs.InUse.{tableIn}
-use Rattle.table.specs.Bounds.{TableBounds}
+use Rattle.table.specs.Bounds.{AcceptedBounds}
+use Rattle.cells.specs.Cells.{cells}
 use Rattle.state.specs.States.{State, stepsOf}
 use Rattle.state.specs.Answers.{stateAfter}
 use Rattle.entries.specs.Entries.{stepAnswer, forecastAnswer}
@@ -33,13 +34,14 @@ pub record Keeps
 -- a state that stands together with the other run's, as it is handed out
 pub state-keeps :
     (t : TableValues) (s : State) (x : ExactState) (hasReading : ℕ → Bool)
+    → AcceptedBounds t
     → Together t s x hasReading
     → Keeps t (stateHanded t s) (exactStateHanded t x) hasReading s x
-state-keeps t s x hasReading h =
-    record { near = state-near t s x hasReading h; limit = state-limit t s x hasReading h; after = h }
+state-keeps t s x hasReading b h =
+    record { near = state-near t b s x hasReading h; limit = state-limit t b s x hasReading h; after = h }
 
 module _
-    (table : List ℕ) (s : State) (x : ExactState) (hasReading : ℕ → Bool) (b : TableBounds (tableIn table))
+    (table : List ℕ) (s : State) (x : ExactState) (hasReading : ℕ → Bool) (b : AcceptedBounds (tableIn table))
     (before : Together (tableIn table) s x hasReading) where
   abbrev t : TableValues
   t = tableIn table
@@ -58,8 +60,8 @@ module _
   step-keeps bytes (accepted next) e =
       let k = stepping table bytes s next e in
       subst
-      (λ (n : State). Keeps t (stateHanded t n) (exactStateHanded t (exactStepped t bytes x)) (hasReadingAfter t bytes hasReading) n (exactStepped t bytes x))
-      (sym (k .1)) (state-keeps t _ _ _ (step-together t bytes s x hasReading b (k .0) before))
+      (λ (n : State). Keeps t (stateHanded t n) (exactStateHanded t (exactStepped (cells t) bytes x)) (hasReadingAfter t bytes hasReading) n (exactStepped (cells t) bytes x))
+      (sym (k .1)) (state-keeps t _ _ _ b (step-together t bytes s x hasReading b (k .0) before))
   step-keeps bytes (refused n) e = record { near = none; limit = none; after = before }
 
   -- a forecast, by its answer
@@ -79,8 +81,8 @@ module _
       (λ (f : List Figures). Keeps t (forecastHanded t (stepsOf s) (accepted f)) (exactForecastHanded t x) hasReading s x)
       (sym (k .1))
       (record {
-        near = forecast-near t s x hasReading before b (k .0);
-        limit = forecast-limit t s x hasReading before b (k .0);
+        near = forecast-near t b s x hasReading before (k .0);
+        limit = forecast-limit t b s x hasReading before (k .0);
         after = before;
       })
   forecast-keeps room (refused n) e = record { near = none; limit = none; after = before }

@@ -1,6 +1,7 @@
 pub mod ListLaws
 pub mod CeilingLaws
 pub mod ReadingLaws
+pub mod CellReadings
 pub mod AcceptedLaws
 pub mod TogetherLaws
 pub mod HandedLaws

@@ -9,7 +9,8 @@ use Rattle.refusal.specs.Answers.{accepted}
 use Rattle.exact.specs.Exact.{ExactFigures}
 use Rattle.table.specs.Tables.{TableValues}
 use Rattle.table.specs.InUse.{tableIn}
-use Rattle.table.specs.Bounds.{TableBounds}
+use Rattle.table.specs.Bounds.{AcceptedBounds}
+use Rattle.cells.specs.Cells.{cells}
 use Rattle.state.specs.States.{State}
 use Rattle.state.specs.Start.{started}
 use Rattle.entries.specs.Entries.{startAnswer}
@@ -24,7 +25,7 @@ use Rattle.claim.proofs.TogetherLaws.{Together, start-together}
 use Rattle.claim.proofs.CallLaws.{state-keeps, call-keeps}
 
 -- all calls, from two runs that stand together
-module _ (table : List ℕ) (b : TableBounds (tableIn table)) where
+module _ (table : List ℕ) (b : AcceptedBounds (tableIn table)) where
   -- each hands out figures within their margins
   run-near :
       (s : State) (x : ExactState) (hasReading : ℕ → Bool)
@@ -52,12 +53,12 @@ module _ (table : List ℕ) (b : TableBounds (tableIn table)) where
 -- the two runs stand together after the start
 after-start :
     (t : TableValues) (any s : State)
-    → TableBounds t
+    → AcceptedBounds t
     → length any ≡ stateNumbers
     → s ≡ started t any
-    → Together t s (exactStarted t) (λ k. false)
+    → Together t s (exactStarted (cells t)) (λ k. false)
 after-start t any s b full e =
-    subst (λ (n : State). Together t n (exactStarted t) (λ k. false)) (sym e) (start-together t any b full)
+    subst (λ (n : State). Together t n (exactStarted (cells t)) (λ k. false)) (sym e) (start-together t any b full)
 
 -- "Before the mission's list stands one accepted start, on any state": any numbers, as many as a state has
 pub the-claim :
@@ -71,8 +72,8 @@ the-claim table any s full start calls =
     let begun = starting table any s start in
     let t = tableIn table in
     let together = after-start t any s (begun .bounds) full (begun .state) in
-    let first = state-keeps t s (exactStarted t) (λ k. false) together in
+    let first = state-keeps t s (exactStarted (cells t)) (λ k. false) (begun .bounds) together in
     record {
-      near = more (first .near) (run-near table (begun .bounds) s (exactStarted t) (λ k. false) together calls);
-      limit = more (first .limit) (run-limit table (begun .bounds) s (exactStarted t) (λ k. false) together calls);
+      near = more (first .near) (run-near table (begun .bounds) s (exactStarted (cells t)) (λ k. false) together calls);
+      limit = more (first .limit) (run-limit table (begun .bounds) s (exactStarted (cells t)) (λ k. false) together calls);
     }

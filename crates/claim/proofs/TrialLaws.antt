@@ -11,6 +11,8 @@ use Rattle.table.specs.InUse.{tableIn}
 use Rattle.table.proofs.HeldLaws.{accepted-table}
 use Rattle.table.proofs.TableLaws.{table-kept}
 use Rattle.record.specs.Records.{inputAt}
+use Rattle.cells.specs.Cells.{cells}
+use Rattle.cells.proofs.BoundsLaws.{cells-bounds}
 use Rattle.state.specs.States.{State, stepsOf, figuresOf}
 use Rattle.network.specs.Answer.{listed}
 use Rattle.network.proofs.StepLaws.{stepped-steps}
@@ -30,8 +32,8 @@ unfolding outcome stepHanded stateHanded stepAnswer
 trial-handed table bytes s room figures hasReading whole h =
     let t = tableIn table in
     let o = trial-accepted table bytes s room figures h in
-    let few = accepted-table table (table-kept table _ (o .stepped) .0) .bounds .elementsMost in
-    let steps = ap stepsOf (stepping table bytes s (o .next) (o .stepped) .1) ∙ stepped-steps t (inputAt t bytes) s whole few in
+    let few = cells-bounds _ (accepted-table table (table-kept table _ (o .stepped) .0) .bounds) .elementsMost in
+    let steps = ap stepsOf (stepping table bytes s (o .next) (o .stepped) .1) ∙ stepped-steps t (inputAt (cells t) bytes) s whole few in
     ap (stepHanded t) (o .stepped)
     ∙ (ap (λ (n : ℕ). paired (statePlaces t n) (listed (figuresOf (o .next)) (t .elements))) steps
     ∙ ap (paired (statePlaces t (stepsOf s + 1))) (sym (o .figures ∙ state-figures t (o .next))))

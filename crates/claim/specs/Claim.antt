@@ -9,6 +9,7 @@ use Rattle.exact.specs.Fraction.{Within}
 use Rattle.exact.specs.Exact.{ExactFigures}
 use Rattle.table.specs.Tables.{TableValues}
 use Rattle.table.specs.InUse.{tableIn}
+use Rattle.cells.specs.Cells.{lastNumber, cells}
 use Rattle.state.specs.States.{State}
 use Rattle.network.specs.Step.{networkDown}
 use Rattle.exact_run.specs.ExactRun.{exactStarted}
@@ -35,12 +36,13 @@ pub record WithinMargins (cabinet : Place × Figures) (fractions : Place × Exac
   pub variance : Within (cabinet .1 .variance .0) (fractions .1 .variance) (cabinet .1 .«variance_margin» .0)
 
 -- the mission: "where no reading has come in at or above an element, its discharge margin after n steps and leads is at most
--- 16 × n × c, c being the elements at or above it"; "The mission's n is the step count plus the lead."
+-- 16 × n × c, c being the elements at or above it"; "The mission's n is the step count plus the lead."; M-107, of tanks: "in the margin
+-- limit c counts them"
 unfoldable pub UnderLimit : TableValues → (ℕ → Bool) → Place × Figures → Type 0
 UnderLimit t hasReading (place, figures) =
     NoReading (t .elements) (networkDown t) hasReading (place .element)
     → figures .«discharge_margin» .0
-    ≤ 16 * (place .steps + place .lead) * atOrAbove (t .elements) (networkDown t) (place .element)
+    ≤ 16 * (place .steps + place .lead) * atOrAbove (cells t .elements) (networkDown (cells t)) (lastNumber t (place .element))
 
 -- all outcomes of the cabinet's run on a table's bytes from the state s that a start left, the start's own first
 unfoldable pub outcomes : List ℕ → State → List Call → List Outcome
@@ -50,8 +52,8 @@ outcomes table s calls = startOutcome table s ∷ cabinetRun table s (λ k. fals
 unfoldable pub fractions : List ℕ → State → List Call → List (List (Place × ExactFigures))
 fractions table s calls =
     let t : TableValues = tableIn table in
-    exactStateHanded t (exactStarted t)
-    ∷ fractionRun t (exactStarted t) (paired calls (map (λ (o : Outcome). o .wasRefused) (cabinetRun table s (λ k. false) calls)))
+    exactStateHanded t (exactStarted (cells t))
+    ∷ fractionRun t (exactStarted (cells t)) (paired calls (map (λ (o : Outcome). o .wasRefused) (cabinetRun table s (λ k. false) calls)))
 
 -- "This is a single claim about the whole list, and not one for each call."
 pub record Claim (table : List ℕ) (s : State) (calls : List Call) : Type 0 where

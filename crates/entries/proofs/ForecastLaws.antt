@@ -13,6 +13,8 @@ use Rattle.method.specs.declared.Figures.{Figures}
 use Rattle.method.specs.Figures.{FiguresFit}
 use Rattle.method.proofs.FiguresLaws.{figures-under}
 use Rattle.table.specs.Tables.{TableValues}
+use Rattle.cells.specs.Cells.{lastCell, cells}
+use Rattle.cells.proofs.CellLaws.{last-in-use}
 use Rattle.state.specs.States.{State}
 use Rattle.state.specs.Rules.{stateFits}
 use Rattle.state.proofs.BoundsLaws.{state-bounds}
@@ -49,12 +51,12 @@ pub lead-fits :
     → (lead : ℕ)
     → lead ≤ t .leads
     → (i : ℕ)
-    → i < t .elements
+    → i < cells t .elements
     → FiguresFit (leadFigures t s lead i)
 unfolding leadFigures
 lead-fits t s call zero m i l = state-bounds t s (call .fits) .figures i l
 lead-fits t s call (suc lead) m i l =
-    new-fit t (leadOwn t s lead) noObservation (leadFigures t s lead) (t .elements) i l
+    new-fit (cells t) (leadOwn t s lead) noObservation (leadFigures t s lead) (cells t .elements) i l
     (lead-part t s lead (t .leads) m (call .under))
 
 -- ---- the numbers of the answer
@@ -91,4 +93,4 @@ unfolding forecastFigures
 answer-under t s room figures h k =
     let a = forecasting-on t s room figures h in
     rw (a .1)
-    (under-at _ (by-lead-under (λ i lead. leadFigures t s lead i) (t .elements) (t .leads + 1) (λ i lead l m. lead-fits t s (a .0) lead (omega arith) i l)) k)
+    (under-at _ (by-lead-under (λ i lead. leadFigures t s lead (lastCell t i)) (t .elements) (t .leads + 1) (λ i lead l m. lead-fits t s (a .0) lead (omega arith) (lastCell t i) (last-in-use t i l))) k)

@@ -1,3 +1,4 @@
+pub mod CellRules
 pub mod NextLaws
 pub mod ForecastLaws
 pub mod StepRuleLaws

@@ -1,13 +1,14 @@
 -- A state that a start or an accepted step left is one that rule 8 accepts.
 use Prim.{Unit}
 use Prim.Native.Nat.{ℕ, _+_, _≤_, _<_}
-use mathlib.Core.Bool.{Bool, true, false, cond}
+use mathlib.Core.Bool.{Bool, true, false, cond, _&&_}
 use mathlib.Core.List.{List, [], _∷_}
-use mathlib.Core.Logic.{⊎-elim}
-use mathlib.Core.Path.{_≡_, refl, sym, subst, _∙_}
-use borrow.Author.Tests.{le-leb, eq-eqb}
+use mathlib.Core.Logic.{_≢_, ⊎-elim}
+use mathlib.Core.Path.{_≡_, refl, sym, ap, subst, _∙_}
+use borrow.Author.Tests.{le-leb, eq-eqb, eqb-false}
 use native.Mathlib.Nat.{eq-or-lt-of-le}
 use native.Mathlib.Omega.{arith}
+use lib.Dec.{eqb}
 use lib.ListN.{length}
 use Rattle.sizes.specs.Sizes.{stateNumbers}
 use Rattle.refusal.specs.Answers.{accepted, refused}
@@ -24,19 +25,22 @@ use Rattle.method.specs.Routing.{routed, varianceNumbers, routingNumbers}
 use Rattle.method.specs.Correction.{corrected, correctionNumbers}
 use Rattle.fields.proofs.RangeLaws.{all-below}
 use Rattle.elements.specs.declared.Element.{Element}
-use Rattle.elements.specs.Kinds.{basin, IsKind}
+use Rattle.elements.specs.Kinds.{basin, tanks, byKind, IsKind}
 use Rattle.elements.proofs.KindLaws.{kind-cases, kind-both, no-other}
 use Rattle.table.specs.Tables.{TableValues}
 use Rattle.table.specs.Bounds.{TableBounds}
+use Rattle.table.specs.KindCounts.{extraCount}
+use Rattle.cells.specs.Cells.{lastCell, cells}
+use Rattle.cells.proofs.CellLaws.{last-most, last-in-use, last-place, cellKind, one-kind, last-kind, cell-used, tank-found}
 use Rattle.record.specs.declared.Observation.{Observation}
 use Rattle.record.specs.declared.Observation.the-variants.{Nothing, Rated}
 use Rattle.record.specs.Records.{Input, inputAt}
 use Rattle.record.specs.Rules.{recordRules}
 use Rattle.record.proofs.RecordLaws as record-laws
 use Rattle.state.specs.declared.Rains.{Rains}
-use Rattle.state.specs.States.{State, ElementState, stepsOf, figuresOf, placeOf}
+use Rattle.state.specs.States.{State, ElementState, stepsOf, figuresOf, cellFigures, placeOf}
 use Rattle.state.specs.Start.{firstFigures, started}
-use Rattle.state.specs.Rules.{figuresFit, rainsFit, placeFits, stateFits, stepsLeft}
+use Rattle.state.specs.Rules.{figuresFit, rainsFit, placeFits, elementsFit, tanksFit, stateFits, stepsLeft}
 use Rattle.state.specs.Bounds.{RainsUnder, StateBounds}
 use Rattle.state.specs.Answers.{Answered}
 use Rattle.state.proofs.StateLaws.{started-elements, started-steps, started-figures, started-rains}
@@ -58,6 +62,7 @@ use Rattle.network.specs.Step.{networkCell, aboveOf, newFigures, networkNumbers
 use Rattle.network.proofs.NumbersLaws.{element-part}
 use Rattle.network.proofs.StepLaws.{stepped-length, stepped-elements, stepped-steps, stepped-figures, stepped-rains}
 use Rattle.entries.specs.Entries.{stepRules, stepOnAnswer}
+use Rattle.entries.proofs.CellRules.{cells-kept}
 
 -- ---- the figures
 
@@ -136,22 +141,43 @@ rains-fit r h = rw (le-leb _ _ (h .first), le-leb _ _ (h .second), le-leb _ _ (h
 
 place-fits :
     (kind : ℕ) (p : ElementState)
-    → IsKind kind
+    → (kind ≢ tanks → IsKind kind)
     → FiguresFit (p .figures)
     → (kind ≡ basin → RainsUnder (p .rains))
     → placeFits kind p ≡ true
 unfolding placeFits
-place-fits kind p is f r =
-    kind-cases (λ (fit : Bool). fit ≡ true) kind (λ k. rw (figures-fit _ f, rains-fit _ (r k))) (λ _. figures-fit _ f)
-    (λ _. figures-fit _ f) (λ a b c. absurd (no-other is a b c))
+place-fits kind p single f r = go (eqb kind tanks) refl
+  where
+    go :
+        (x : Bool)
+        → eqb kind tanks ≡ x
+        → cond x (figuresFit (p .figures)) (byKind kind (figuresFit (p .figures) && rainsFit (p .rains)) (figuresFit (p .figures)) (figuresFit (p .figures)) false) ≡ true
+    go true k = figures-fit _ f
+    go false k =
+        kind-cases (λ (fit : Bool). fit ≡ true) kind (λ b. rw (figures-fit _ f, rains-fit _ (r b))) (λ _. figures-fit _ f)
+        (λ _. figures-fit _ f) (λ a b c. absurd (no-other (single (eqb-false _ _ k)) a b c))
 
 -- a state within the bounds of rule 8 is accepted by it
-pub bounds-fit : (t : TableValues) (s : State) → TableBounds t → StateBounds t s → stateFits t s ≡ true
-unfolding stateFits placeOf
+pub bounds-fit : (t : TableValues) (s : State) → TableBounds (cells t) → StateBounds t s → stateFits t s ≡ true
+unfolding stateFits elementsFit tanksFit placeOf
 bounds-fit t s b h =
-    rw (eq-eqb _ _ (h .elements), le-leb _ _ (h .steps))
-    (all-below _ (t .elements)
-    (λ i l. place-fits (t .element i .kind) (placeOf s i) (b .element i l .kind) (h .figures i l) (h .rains i l)))
+    rw (eq-eqb _ _ (h .elements), le-leb _ _ (h .steps), all-below _ (t .elements) places)
+    (all-below _ (extraCount t) tanks-fit)
+  where
+    places : (i : ℕ) → i < t .elements → placeFits (t .element i .kind) (placeOf s i) ≡ true
+    places i l =
+        let c = lastCell t i in
+        let m = last-in-use t i l in
+        let k : cells t .element c .kind ≡ cellKind (t .element i) = ap (λ (e : Element). e .kind) (cell-used t c (last-most t i l)) ∙ last-kind t i l in
+        let one : t .element i .kind ≢ tanks → cellKind (t .element i) ≡ t .element i .kind = one-kind (t .element i) in
+        place-fits (t .element i .kind) (placeOf s i) (λ n. subst IsKind (k ∙ one n) (b .element c m .kind))
+        (rw (last-place t i l) at (h .figures c m))
+        (λ e. rw (last-place t i l) at (h .rains c m (k ∙ (one (λ q. omega (arith, e, q)) ∙ e))))
+
+    tanks-fit : (x : ℕ) → x < extraCount t → figuresFit (figuresOf s (t .elements + x)) ≡ true
+    tanks-fit x l =
+        let f = tank-found t x l in
+        figures-fit _ (rw (f .is) at (h .figures (f .cell) (f .used)))
 
 -- ---- an answer that rule 16 lets through
 
@@ -170,9 +196,9 @@ unfolding shiftedRains
 shifted-under rain r l h = record { first = l; second = h .first; third = h .second }
 
 module _
-    (t : TableValues) (input : ℕ → Input) (s : State) (b : TableBounds t) (full : length s ≡ stateNumbers)
+    (t : TableValues) (input : ℕ → Input) (s : State) (b : TableBounds (cells t)) (full : length s ≡ stateNumbers)
     (fits : stateFits t s ≡ true) (left : stepsLeft s ≡ true)
-    (rain : (i : ℕ) → i < t .elements → input i .rain ≤ 3000) (under : Under (stepNumbers t input s)) where
+    (rain : (i : ℕ) → i < cells t .elements → input i .rain ≤ 3000) (under : Under (stepNumbers t input s)) where
   before : StateBounds t s
   before = state-bounds t s fits
 
@@ -183,9 +209,9 @@ module _
       last : stepsOf s ≡ 10000 → ⊥
       last e = let k = eq-eqb _ _ e in let z : _≡_ {A = ℕ} 0 1 = cc in omega arith
 
-  new-figures-fit : (i : ℕ) → i < t .elements → FiguresFit (stepFigures t input s i)
+  new-figures-fit : (i : ℕ) → i < cells t .elements → FiguresFit (stepFigures t input s i)
   unfolding stepFigures stepNumbers
-  new-figures-fit i l = new-fit t (stepOwn t input) (observedIn input) (figuresOf s) (t .elements) i l under
+  new-figures-fit i l = new-fit (cells t) (stepOwn (cells t) input) (observedIn input) (cellFigures t s) (cells t .elements) i l under
 
   stepped-bounds : StateBounds t (stepped t input s)
   stepped-bounds =
@@ -207,32 +233,32 @@ pub record Stepping (t : TableValues) (bytes : List ℕ) (s : State) : Type 0 wh
   pub fits : stateFits t s ≡ true
   pub left : stepsLeft s ≡ true
   pub kept : recordRules {A = Unit} t bytes (accepted tt) ≡ accepted tt
-  pub under : Under (stepNumbers t (inputAt t bytes) s)
+  pub under : Under (stepNumbers t (inputAt (cells t) bytes) s)
 
 pub stepping-on :
     (t : TableValues) (bytes : List ℕ) (s next : State)
     → stepOnAnswer t bytes s ≡ accepted next
-    → Stepping t bytes s × (next ≡ stepped t (inputAt t bytes) s)
+    → Stepping t bytes s × (next ≡ stepped t (inputAt (cells t) bytes) s)
 unfolding stepRules stepOnAnswer
 stepping-on t bytes s next h =
     let b = rule-kept 8 (stateFits t s) _ h in
     let c = rule-kept 9 (stepsLeft s) _ (b .1) in
     let d = record-laws.record-kept t bytes _ (c .1) in
-    let e = under-kept (stepNumbers t (inputAt t bytes) s) (stepped t (inputAt t bytes) s) (d .1) in
+    let e = under-kept (stepNumbers t (inputAt (cells t) bytes) s) (stepped t (inputAt (cells t) bytes) s) (d .1) in
     (record { fits = b .0; left = c .0; kept = d .0; under = e .1 }, e .0)
 
 -- document 01, rule 8: a state that a step left is never refused
-module _ (t : TableValues) (bytes : List ℕ) (s next : State) (b : TableBounds t) (full : length s ≡ stateNumbers) where
+module _ (t : TableValues) (bytes : List ℕ) (s next : State) (b : TableBounds (cells t)) (full : length s ≡ stateNumbers) where
   pub next-fits : stepOnAnswer t bytes s ≡ accepted next → stateFits t next ≡ true
   next-fits h =
       let k = stepping-on t bytes s next h in
       rw (k .1)
-      (stepped-fits t (inputAt t bytes) s b full (k .0 .fits) (k .0 .left)
-      (λ i l. record-laws.inputs-fit t bytes b (k .0 .kept) i l .rain) (k .0 .under))
+      (stepped-fits t (inputAt (cells t) bytes) s b full (k .0 .fits) (k .0 .left)
+      (λ i l. record-laws.inputs-fit (cells t) bytes (b .gauge) (cells-kept t bytes (k .0 .kept)) i l .rain) (k .0 .under))
 
   -- it is as long as before
   pub next-length : stepOnAnswer t bytes s ≡ accepted next → length next ≡ stateNumbers
-  next-length h = rw (stepping-on t bytes s next h .1) (stepped-length t (inputAt t bytes) s ∙ full)
+  next-length h = rw (stepping-on t bytes s next h .1) (stepped-length t (inputAt (cells t) bytes) s ∙ full)
 
   -- and so with the state that an entry leaves after a step that it accepts
   pub answered-fits : (v : Verdict) → Answered v next (stepOnAnswer t bytes s) s → v ≡ Accepted → stateFits t next ≡ true
@@ -240,8 +266,8 @@ module _ (t : TableValues) (bytes : List ℕ) (s next : State) (b : TableBounds 
 
 -- ---- the start
 
-module _ (t : TableValues) (s : State) (b : TableBounds t) (full : length s ≡ stateNumbers) where
-  first-fits : (i : ℕ) → i < t .elements → FiguresFit (firstFigures (t .element i))
+module _ (t : TableValues) (s : State) (b : TableBounds (cells t)) (full : length s ≡ stateNumbers) where
+  first-fits : (i : ℕ) → i < cells t .elements → FiguresFit (firstFigures (cells t .element i))
   unfolding firstFigures
   first-fits i l =
       let e = b .element i l in

@@ -2,7 +2,7 @@
 use Prim.Native.Nat.{ℕ}
 use mathlib.Core.Bool.{Bool, true, false}
 use mathlib.Core.List.{List}
-use mathlib.Core.Path.{_≡_, refl, fun-ext}
+use mathlib.Core.Path.{_≡_, refl, sym, _∙_, fun-ext}
 use borrow.Author.Tests.{ltb-true}
 use native.Mathlib.Omega.{arith}
 use lib.Dec.{ltb}
@@ -16,42 +16,44 @@ use Rattle.table.specs.KindCounts.{basinCount, damCount}
 use Rattle.record.specs.Records.{rainOf, releaseOf, inputRain, inputRelease, inputAt}
 use Rattle.record.specs.Rules.{rainFits, releaseFits, readingFits, rainsFit, releasesFit, readingsFit, recordRules}
 use Rattle.record.proofs.SameLaws.{same-rain, same-release, same-observation}
+use Rattle.cells.specs.Cells.{cells}
+use Rattle.record.proofs.CellInputs.{basins-same, dams-same, reading-same}
 use Rattle.state.specs.States.{State}
 use Rattle.entries.specs.Entries.{stepRules, stepOnAnswer, stepAnswer}
 use Rattle.entries.specs.Trials.{triedAnswer, trialAnswer}
 use Rattle.entries.specs.SameReadings.{OfEitherVersion, SameReadings}
 
 -- beyond the elements of a table there is nothing to bring
-beyond : (table : List ℕ) (i : ℕ) → ltb i (tableIn table .elements) ≡ false → tableIn table .element i ≡ noElement
-unfolding tableIn inUse below
-beyond table i e = rw e
+beyond : (t : TableValues) (i : ℕ) → ltb i (cells t .elements) ≡ false → cells t .element i ≡ noElement
+unfolding cells below
+beyond t i e = rw e
 
 module _ (table one other : List ℕ) (same : SameReadings (tableIn table) one other) where
   abbrev t : TableValues
   t = tableIn table
 
-  rain-same : (i : ℕ) → inputRain t one i ≡ inputRain t other i
+  rain-same : (i : ℕ) → inputRain (cells t) one i ≡ inputRain (cells t) other i
   unfolding inputRain rainOf byKind
-  rain-same i = go (ltb i (t .elements)) refl
+  rain-same i = go (ltb i (cells t .elements)) refl
     where
-      go : (used : Bool) → ltb i (t .elements) ≡ used → inputRain t one i ≡ inputRain t other i
-      go true e = same-rain t one other i (same .rains) (ltb-true _ _ e)
-      go false e = rw (beyond table i e)
+      go : (used : Bool) → ltb i (cells t .elements) ≡ used → inputRain (cells t) one i ≡ inputRain (cells t) other i
+      go true e = same-rain (cells t) one other i (rw (basins-same t) (same .rains)) (ltb-true _ _ e)
+      go false e = rw (beyond t i e)
 
-  release-same : (i : ℕ) → inputRelease t one i ≡ inputRelease t other i
+  release-same : (i : ℕ) → inputRelease (cells t) one i ≡ inputRelease (cells t) other i
   unfolding inputRelease releaseOf byKind
-  release-same i = go (ltb i (t .elements)) refl
+  release-same i = go (ltb i (cells t .elements)) refl
     where
-      go : (used : Bool) → ltb i (t .elements) ≡ used → inputRelease t one i ≡ inputRelease t other i
-      go true e = same-release t one other i (same .releases) (ltb-true _ _ e)
-      go false e = rw (beyond table i e)
+      go : (used : Bool) → ltb i (cells t .elements) ≡ used → inputRelease (cells t) one i ≡ inputRelease (cells t) other i
+      go true e = same-release (cells t) one other i (rw (basins-same t, dams-same t) (same .releases)) (ltb-true _ _ e)
+      go false e = rw (beyond t i e)
 
-  input-same : inputAt t one ≡ inputAt t other
-  unfolding inputAt
+  input-same : inputAt (cells t) one ≡ inputAt (cells t) other
+  unfolding inputAt tableIn cells
   input-same =
       fun-ext
       (λ i.
-      rw (rain-same i, release-same i, same-observation t one other i (λ k l _. same .readings k l) (t .gauges) (omega arith)))
+      rw (rain-same i, release-same i, same-observation (cells t) one other i (λ k l _. reading-same t one k ∙ (same .readings k l ∙ sym (reading-same t other k))) (t .gauges) (omega arith)))
 
   -- the rules that ask for the numbers, and those that are kept
   rains-same : rainsFit t one ≡ rainsFit t other

@@ -12,6 +12,9 @@ use Rattle.table.specs.InUse.{tableIn}
 use Rattle.table.specs.Rules.{tableRules}
 use Rattle.table.proofs.TableLaws as table-laws
 use Rattle.record.specs.Records.{inputAt}
+use native.Mathlib.Omega.{arith}
+use Rattle.cells.specs.Cells.{lastCell, cells}
+use Rattle.cells.proofs.CellLaws.{last-place}
 use Rattle.state.specs.States.{State, figuresOf}
 use Rattle.network.specs.Step.{stepped, stepNumbers}
 use Rattle.network.specs.Forecast.{leadFigures}
@@ -23,11 +26,11 @@ use Rattle.entries.proofs.StepRuleLaws as step-rules
 -- the figures of a state, by element
 pub state-figures : (t : TableValues) (s : State) → stateFigures t s ≡ listed (figuresOf s) (t .elements)
 unfolding stateFigures byElementAndLead listed leadFigures
-state-figures t s = go (t .elements)
+state-figures t s = go (t .elements) (omega arith)
   where
-    go : (n : ℕ) → byElementAndLead (λ i lead. leadFigures t s lead i) n 1 ≡ listed (figuresOf s) n
-    go zero = refl
-    go (suc n) = ap (λ (fs : List Figures). fs ++ figuresOf s n ∷ []) (go n)
+    go : (n : ℕ) → n ≤ t .elements → byElementAndLead (λ i lead. leadFigures t s lead (lastCell t i)) n 1 ≡ listed (figuresOf s) n
+    go zero l = refl
+    go (suc n) l = rw (last-place t n l) (ap (λ (fs : List Figures). fs ++ figuresOf s n ∷ []) (go n (omega arith)))
 
 module _ (table bytes : List ℕ) (s : State) (room : ℕ) where
   abbrev t : TableValues
@@ -41,7 +44,7 @@ module _ (table bytes : List ℕ) (s : State) (room : ℕ) where
   trial-of-step l =
       rw (le-leb _ _ l)
       (ap (λ r. tableRules table (stepRules t bytes s r))
-      (sym (step-rules.under-then (stepNumbers t (inputAt t bytes) s) (stepped t (inputAt t bytes) s) (stateFigures t)))
+      (sym (step-rules.under-then (stepNumbers t (inputAt (cells t) bytes) s) (stepped t (inputAt (cells t) bytes) s) (stateFigures t)))
       ∙ sym (simp (table-laws.and-then, step-rules.and-then)))
 
   -- an accepted trial has space enough

@@ -8,6 +8,7 @@ use Rattle.method.specs.declared.Figures.{Figures}
 use Rattle.table.specs.Tables.{TableValues}
 use Rattle.table.specs.InUse.{tableIn}
 use Rattle.table.specs.Rules.{tableRules}
+use Rattle.cells.specs.Cells.{cells}
 use Rattle.record.specs.Records.{inputAt}
 use Rattle.record.specs.Rules.{recordRules}
 use Rattle.state.specs.States.{State}
@@ -26,7 +27,7 @@ stepRules t bytes s rest = rule 8 (stateFits t s) (rule 9 (stepsLeft s) (recordR
 
 -- a step on an accepted table and the bytes of a record
 unfoldable pub stepOnAnswer : TableValues → List ℕ → State → Answer State
-stepOnAnswer t bytes s = stepRules t bytes s (underCeiling (stepNumbers t (inputAt t bytes) s) (stepped t (inputAt t bytes) s))
+stepOnAnswer t bytes s = stepRules t bytes s (underCeiling (stepNumbers t (inputAt (cells t) bytes) s) (stepped t (inputAt (cells t) bytes) s))
 
 -- a step on the bytes of a table and of a record
 unfoldable pub stepAnswer : List ℕ → List ℕ → State → Answer State

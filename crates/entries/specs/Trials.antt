@@ -10,6 +10,7 @@ use Rattle.method.specs.declared.Figures.{Figures}
 use Rattle.table.specs.Tables.{TableValues}
 use Rattle.table.specs.InUse.{tableIn}
 use Rattle.table.specs.Rules.{tableRules}
+use Rattle.cells.specs.Cells.{lastCell, cells}
 use Rattle.record.specs.Records.{inputAt}
 use Rattle.state.specs.States.{State}
 use Rattle.network.specs.Step.{stepped, stepNumbers}
@@ -19,7 +20,7 @@ use Rattle.entries.specs.Entries.{stepRules}
 
 -- "laid out as a forecast of lead 0 alone": the figures of each element in a state
 unfoldable pub stateFigures : TableValues → State → List Figures
-stateFigures t s = byElementAndLead (λ i lead. leadFigures t s lead i) (t .elements) 1
+stateFigures t s = byElementAndLead (λ i lead. leadFigures t s lead (lastCell t i)) (t .elements) 1
 
 -- "Space for fewer than 4 × N numbers is 15"
 unfoldable pub trialSpaceFits : TableValues → ℕ → Bool
@@ -29,7 +30,7 @@ trialSpaceFits t room = leb (4 * t .elements) room
 unfoldable pub triedAnswer : TableValues → List ℕ → State → ℕ → Answer (List Figures)
 triedAnswer t bytes s room =
     rule 15 (trialSpaceFits t room)
-    (underCeiling (stepNumbers t (inputAt t bytes) s) (stateFigures t (stepped t (inputAt t bytes) s)))
+    (underCeiling (stepNumbers t (inputAt (cells t) bytes) s) (stateFigures t (stepped t (inputAt (cells t) bytes) s)))
 
 -- a trial on the bytes of a table and of a record
 unfoldable pub trialAnswer : List ℕ → List ℕ → State → ℕ → Answer (List Figures)

@@ -10,7 +10,7 @@ gap-at-most : (x y m : ℕ) → x ≤ m → y ≤ m → gapOf x y ≤ m
 unfolding gapOf
 gap-at-most x y m h l = omega arith
 
--- 3 × (C + 200,000,000) / S is 12
+-- 3 × (C + 333,333,332) / S is 12
 pub blend-growth :
     (w m : ℕ) (x y : Estimate)
     → w ≤ S
@@ -18,7 +18,7 @@ pub blend-growth :
     → y .value ≤ C
     → x .margin ≤ m
     → y .margin ≤ m
-    → m ≤ 100_000_000
+    → m ≤ 166_666_666
     → blended w 3 x y .margin ≤ m + 15
 unfolding blended
 blend-growth w m x y most vx vy mx my small =

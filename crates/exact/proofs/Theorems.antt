@@ -129,7 +129,7 @@ pub margin-growth :
     → y .value ≤ C
     → x .margin ≤ m
     → y .margin ≤ m
-    → m ≤ 100_000_000
+    → m ≤ 166_666_666
     → blended w 3 x y .margin ≤ m + 15
 margin-growth = blend-growth
 
@@ -141,7 +141,7 @@ pub routing-margin-growth :
     → discharge old .value ≤ C
     → discharge inflow .margin ≤ m
     → discharge old .margin ≤ m
-    → m ≤ 100_000_000
+    → m ≤ 166_666_666
     → routedDischarge H inflow old .margin ≤ m + 15
 unfolding routedDischarge
 routing-margin-growth H m inflow old most vi vo mi mo small =

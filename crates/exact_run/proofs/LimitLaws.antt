@@ -9,7 +9,7 @@ use native.Mathlib.Nat.{mul-le-mul, mul-le-mul-left, eq-or-lt-of-le}
 use native.Mathlib.Numerals.{add-one}
 use native.Mathlib.Omega.{arith}
 use lib.Dec.{eqb}
-use Rattle.sizes.specs.Sizes.{mostElements, mostLeads}
+use Rattle.sizes.specs.Sizes.{mostPlaces, mostLeads}
 use Rattle.units.specs.Units.{C, S}
 use Rattle.method.specs.declared.Figures.{Figures}
 use Rattle.method.specs.Figures.{discharge}
@@ -37,7 +37,7 @@ move-limit :
     (H n d : ℕ) (inflow old : Figures)
     → H ≤ S
     → suc n ≤ 10_000 + mostLeads
-    → suc d ≤ mostElements
+    → suc d ≤ mostPlaces
     → inflow .discharge .0 ≤ C
     → old .discharge .0 ≤ C
     → marginOf inflow ≤ 16 * suc n * d + 1

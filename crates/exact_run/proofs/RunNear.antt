@@ -17,7 +17,8 @@ use Rattle.table.specs.Bounds.{TableBounds}
 use Rattle.record.specs.Records.{Input, inputRain, inputAt}
 use Rattle.record.specs.Rules.{recordRules}
 use Rattle.state.specs.declared.Rains.{Rains}
-use Rattle.state.specs.States.{State, figuresOf, rainsOf}
+use Rattle.cells.specs.Cells.{cells}
+use Rattle.state.specs.States.{State, cellFigures, cellRains}
 use Rattle.state.specs.Start.{firstFigures, started}
 use Rattle.state.proofs.StateLaws.{started-steps, started-figures, started-rains}
 use Rattle.element_step.specs.ElementStep.{released, ownOf}
@@ -39,9 +40,9 @@ basin-rains : (kind rain : ℕ) (r : Rains) → kind ≡ basin → rainsAfter ki
 unfolding rainsAfter
 basin-rains kind rain r k = by-basin kind _ _ _ _ k
 
-module _ (t : TableValues) (s : State) (b : TableBounds t) (full : length s ≡ stateNumbers) where
+module _ (t : TableValues) (s : State) (b : TableBounds (cells t)) (full : length s ≡ stateNumbers) where
   -- after a start
-  pub start-agrees : Agrees t (started t s) (exactStarted t)
+  pub start-agrees : Agrees t (started t s) (exactStarted (cells t))
   unfolding exactStarted firstFigures
   start-agrees =
       record {
@@ -55,29 +56,29 @@ module _ (t : TableValues) (s : State) (b : TableBounds t) (full : length s ≡ 
 
   -- after an accepted step
   module _
-      (bytes : List ℕ) (x : ExactState) (kept : recordRules {A = Unit} t bytes (accepted tt) ≡ accepted tt)
+      (bytes : List ℕ) (x : ExactState) (kept : recordRules {A = Unit} (cells t) bytes (accepted tt) ≡ accepted tt)
       (a : Agrees t s x) where
     abbrev input : ℕ → Input
-    input = inputAt t bytes
+    input = inputAt (cells t) bytes
 
     rains-agree :
         (i : ℕ)
-        → i < t .elements
-        → t .element i .kind ≡ basin
-        → rainsOf (stepped t input s) i ≡ rainsAfter (t .element i .kind) (inputRain t bytes i) (x .rains i)
+        → i < cells t .elements
+        → cells t .element i .kind ≡ basin
+        → cellRains t (stepped t input s) i ≡ rainsAfter (cells t .element i .kind) (inputRain (cells t) bytes i) (x .rains i)
     unfolding inputAt
     rains-agree i l k =
         stepped-rains t input s full (b .elementsMost) i l k
-        ∙ (ap (shiftedRains (inputRain t bytes i)) (a .rains i l k) ∙ sym (basin-rains (t .element i .kind) _ _ k))
+        ∙ (ap (shiftedRains (inputRain (cells t) bytes i)) (a .rains i l k) ∙ sym (basin-rains (cells t .element i .kind) _ _ k))
 
     -- what a dam lets out has no margin
-    no-margin : (i : ℕ) → t .element i .kind ≡ dam → stepFigures t input s i .«discharge_margin» .0 ≡ 0
+    no-margin : (i : ℕ) → cells t .element i .kind ≡ dam → stepFigures t input s i .«discharge_margin» .0 ≡ 0
     unfolding stepFigures stepOwn ownOf released
     no-margin i k =
         ap (λ (f : Figures). f .«discharge_margin» .0)
-        (dam-lets-out t (stepOwn t input) (observedIn input) (figuresOf s) i k ∙ by-dam (t .element i .kind) _ _ _ _ k)
+        (dam-lets-out (cells t) (stepOwn (cells t) input) (observedIn input) (cellFigures t s) i k ∙ by-dam (cells t .element i .kind) _ _ _ _ k)
 
-    pub step-agrees : Agrees t (stepped t input s) (exactStepped t bytes x)
+    pub step-agrees : Agrees t (stepped t input s) (exactStepped (cells t) bytes x)
     unfolding exactStepped stepFigures
     step-agrees =
         record {
@@ -85,8 +86,8 @@ module _ (t : TableValues) (s : State) (b : TableBounds t) (full : length s ≡ 
           rains = rains-agree;
           figures = λ i l.
               follows-as (stepped-figures t input s full (b .elementsMost) i l)
-              (step-near t (stepOwn t input) (observedIn input) (figuresOf s) _ _ (x .figures) b (λ k _. own-near t bytes b kept k)
-              (λ k _. observation-near t bytes b kept k) (a .figures) i l);
+              (step-near (cells t) (stepOwn (cells t) input) (observedIn input) (cellFigures t s) _ _ (x .figures) b (λ k _. own-near (cells t) bytes b kept k)
+              (λ k _. observation-near (cells t) bytes b kept k) (a .figures) i l);
           held = λ i l k.
               ap (λ (f : Figures). f .«discharge_margin» .0) (stepped-figures t input s full (b .elementsMost) i l) ∙ no-margin i k;
         }

@@ -1,3 +1,4 @@
 pub mod WalkLaws
+pub mod ReachedLaws
 pub mod ShownLaws
 pub mod Theorem

@@ -2,7 +2,7 @@
 use Prim.Native.Nat.{ℕ, zero, suc, _+_, _*_, _<_}
 use mathlib.Core.List.{List, [], _∷_, _++_, append-assoc}
 use mathlib.Core.Logic.{⊎-elim}
-use mathlib.Core.Path.{_≡_, refl, sym, ap, _∙_}
+use mathlib.Core.Path.{_≡_, refl, sym, ap, subst, _∙_}
 use native.Mathlib.Nat.{eq-or-lt-of-le, add-zero}
 use native.Mathlib.Omega.{arith}
 use lib.ListN.{length, getD, drop}
@@ -11,12 +11,15 @@ use Rattle.sizes.specs.Sizes.{stateNumbers}
 use Rattle.refusal.specs.Answers.{Answer, accepted, refused}
 use Rattle.refusal.proofs.RuleLaws.{not-both}
 use Rattle.method.specs.declared.Figures.{Figures}
+use Rattle.table.specs.Bounds.{AcceptedBounds}
 use Rattle.table.specs.InUse.{tableIn}
 use Rattle.table.proofs.HeldLaws.{accepted-table}
 use Rattle.table.proofs.TableLaws.{table-kept}
 use Rattle.record.specs.Records.{inputAt}
+use Rattle.cells.specs.Cells.{lastCell, cells}
+use Rattle.cells.proofs.CellLaws.{last-place, last-in-use}
 use Rattle.state.specs.States.{State, figuresOf}
-use Rattle.network.specs.Step.{stepFigures}
+use Rattle.network.specs.Step.{stepFigures, stepped}
 use Rattle.network.specs.Answer.{listed}
 use Rattle.network.specs.Lent.{layout, countWritten, lentAfter}
 use Rattle.network.proofs.StepLaws.{stepped-figures}
@@ -54,12 +57,24 @@ figures-laid f (suc n) i l rest =
 -- ---- an accepted trial
 
 module _ (table bytes : List ℕ) (s : State) (whole : length s ≡ stateNumbers) {lent written : List ℕ} (h : AcceptedTrial table bytes s lent written) where
+  pub trial-bounds : AcceptedBounds (tableIn table)
+  unfolding countWritten stepAnswer
+  trial-bounds = go (trialAnswer table bytes s (length lent)) refl (h .answered .count)
+    where
+      go :
+          (answer : Answer (List Figures))
+          → trialAnswer table bytes s (length lent) ≡ answer
+          → accepted (h .count) ≡ countWritten answer
+          → AcceptedBounds (tableIn table)
+      go (accepted fs) e c = accepted-table table (table-kept table _ (trial-accepted table bytes s (length lent) fs e .stepped) .0) .bounds
+      go (refused n) e c = absurd (not-both refl c)
+
   -- the step is accepted too, and its figures are written
   shown-by :
       {fs : List Figures} (o : TrialOfStep table bytes s (length lent) fs) (i : ℕ)
       → i < tableIn table .elements
-      → figuresAt (layout fs ++ drop (length (layout fs)) lent) i ≡ stepFigures (tableIn table) (inputAt (tableIn table) bytes) s i
-  unfolding stepAnswer
+      → figuresAt (layout fs ++ drop (length (layout fs)) lent) i ≡ stepFigures (tableIn table) (inputAt (cells (tableIn table)) bytes) s (lastCell (tableIn table) i)
+  unfolding stepAnswer cells
   shown-by {fs} o i l =
       let t = tableIn table in
       let k = table-kept table _ (o .stepped) in
@@ -67,10 +82,11 @@ module _ (table bytes : List ℕ) (s : State) (whole : length s ≡ stateNumbers
       ap (λ (figures : List Figures). figuresAt (layout figures ++ drop (length (layout fs)) lent) i) (o .figures ∙ state-figures t (o .next))
       ∙ (figures-laid (figuresOf (o .next)) (t .elements) i l _
       ∙ (ap (λ (n : State). figuresOf n i) next
-      ∙ stepped-figures t (inputAt t bytes) s whole (accepted-table table (k .0) .bounds .elementsMost) i l))
+      ∙ subst (λ (p : ℕ). figuresOf (stepped t (inputAt (cells t) bytes) s) p ≡ stepFigures t (inputAt (cells t) bytes) s (lastCell t i)) (last-place t i l)
+      (stepped-figures t (inputAt (cells t) bytes) s whole (accepted-table table (k .0) .bounds .placesMost) (lastCell t i) (last-in-use t i l))))
 
   pub trial-shows :
-      (i : ℕ) → i < tableIn table .elements → figuresAt written i ≡ stepFigures (tableIn table) (inputAt (tableIn table) bytes) s i
+      (i : ℕ) → i < tableIn table .elements → figuresAt written i ≡ stepFigures (tableIn table) (inputAt (cells (tableIn table)) bytes) s (lastCell (tableIn table) i)
   unfolding countWritten lentAfter
   trial-shows i l = go (trialAnswer table bytes s (length lent)) refl (h .answered .count) (h .answered .numbers)
     where
@@ -79,7 +95,7 @@ module _ (table bytes : List ℕ) (s : State) (whole : length s ≡ stateNumbers
           → trialAnswer table bytes s (length lent) ≡ answer
           → accepted (h .count) ≡ countWritten answer
           → written ≡ lentAfter answer lent
-          → figuresAt written i ≡ stepFigures (tableIn table) (inputAt (tableIn table) bytes) s i
+          → figuresAt written i ≡ stepFigures (tableIn table) (inputAt (cells (tableIn table)) bytes) s (lastCell (tableIn table) i)
       go (accepted fs) e c w =
           ap (λ (numbers : List ℕ). figuresAt numbers i) w ∙ shown-by (trial-accepted table bytes s (length lent) fs e) i l
       go (refused n) e c w = absurd (not-both refl c)

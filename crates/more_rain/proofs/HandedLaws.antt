@@ -6,12 +6,14 @@ use mathlib.Core.Path.{_≡_, refl, sym, ap, _∙_}
 use native.Mathlib.Nat.{add-zero}
 use native.Mathlib.Omega.{arith}
 use lib.ListN.{length}
-use Rattle.sizes.specs.Sizes.{mostElements, stateNumbers}
+use Rattle.sizes.specs.Sizes.{mostPlaces, stateNumbers}
 use Rattle.refusal.specs.Answers.{Answer, accepted, refused}
 use Rattle.method.specs.declared.Figures.{Figures}
 use Rattle.table.specs.Tables.{TableValues}
 use Rattle.table.specs.InUse.{tableIn}
 use Rattle.record.specs.Records.{inputAt}
+use Rattle.cells.specs.Cells.{lastCell, cells}
+use Rattle.cells.proofs.CellLaws.{last-place}
 use Rattle.state.specs.States.{State, stepsOf, figuresOf}
 use Rattle.state.specs.Answers.{stateAfter}
 use Rattle.network.specs.Step.{stepped}
@@ -30,7 +32,7 @@ use Rattle.more_rain.specs.MoreRain.{recordsOf, NotRefused, EachHandedOu
 unfoldable pub stateAt : TableValues → State → List (List ℕ) → ℕ → State
 stateAt t s records zero = s
 stateAt t s [] (suc k) = s
-stateAt t s (bytes ∷ records) (suc k) = stateAt t (stepped t (inputAt t bytes) s) records k
+stateAt t s (bytes ∷ records) (suc k) = stateAt t (stepped t (inputAt (cells t) bytes) s) records k
 
 -- of what is handed out at a place: the records done by then, the element counted from 0, and whose figures these are
 pub record AtItsPlace (t : TableValues) (s : State) (records : List (List ℕ)) (x : Place × Figures) : Type 0 where
@@ -38,7 +40,7 @@ pub record AtItsPlace (t : TableValues) (s : State) (records : List (List ℕ)) 
   pub element : ℕ
   pub inside : element < t .elements
   pub place : x .0 ≡ record { steps = stepsOf s + done; element = element + 1; lead = x .0 .lead }
-  pub figures : x .1 ≡ leadFigures t (stateAt t s records done) (x .0 .lead) element
+  pub figures : x .1 ≡ leadFigures t (stateAt t s records done) (x .0 .lead) (lastCell t element)
 
 -- what follows at each place follows of all
 all-follows : {A : Type 0} {P Q : A → Type 0} {xs : List A} → ((x : A) → P x → Q x) → All P xs → All Q xs
@@ -54,7 +56,7 @@ each-follows h each = all-follows (λ o p. all-follows h p) each
 
 module _ (t : TableValues) (s : State) (records : List (List ℕ)) where
   -- from the state itself
-  here : (i lead : ℕ) → i < t .elements → AtItsPlace t s records (record { steps = stepsOf s; element = i + 1; lead = lead }, leadFigures t s lead i)
+  here : (i lead : ℕ) → i < t .elements → AtItsPlace t s records (record { steps = stepsOf s; element = i + 1; lead = lead }, leadFigures t s lead (lastCell t i))
   unfolding stateAt
   here i lead l =
       record {
@@ -67,18 +69,18 @@ module _ (t : TableValues) (s : State) (records : List (List ℕ)) where
 
   pub state-placed : All (AtItsPlace t s records) (stateHanded t s)
   unfolding stateHanded statePlaces leadFigures
-  state-placed = every-listed (AtItsPlace t s records) _ (figuresOf s) (t .elements) (λ i l. here i 0 l)
+  state-placed = every-listed (AtItsPlace t s records) _ (figuresOf s) (t .elements) (λ i l. rw (last-place t i l) at (here i 0 l))
 
   leads-placed : All (AtItsPlace t s records) (paired (forecastPlaces t (stepsOf s)) (forecastFigures t s))
   unfolding forecastPlaces forecastFigures
   leads-placed =
-      every-by-lead (AtItsPlace t s records) _ (λ i lead. leadFigures t s lead i) (t .elements) (t .leads + 1) (λ i lead l m. here i lead l)
+      every-by-lead (AtItsPlace t s records) _ (λ i lead. leadFigures t s lead (lastCell t i)) (t .elements) (t .leads + 1) (λ i lead l m. here i lead l)
 
   -- from the state after one record more
-  module _ (bytes : List ℕ) (full : length s ≡ stateNumbers) (few : t .elements ≤ mostElements) where
+  module _ (bytes : List ℕ) (full : length s ≡ stateNumbers) (few : cells t .elements ≤ mostPlaces) where
     later :
         {next : State}
-        → next ≡ stepped t (inputAt t bytes) s
+        → next ≡ stepped t (inputAt (cells t) bytes) s
         → (x : Place × Figures)
         → AtItsPlace t next records x
         → AtItsPlace t s (bytes ∷ records) x
@@ -91,11 +93,11 @@ module _ (t : TableValues) (s : State) (records : List (List ℕ)) where
           place =
               p .place
               ∙ ap (λ (n : ℕ). record { steps = n; element = p .element + 1; lead = x .0 .lead })
-              (omega (arith, ap stepsOf e, stepped-steps t (inputAt t bytes) s full few));
+              (omega (arith, ap stepsOf e, stepped-steps t (inputAt (cells t) bytes) s full few));
           figures = rw (← e) (p .figures);
         }
 
-module _ (table : List ℕ) (few : tableIn table .elements ≤ mostElements) where
+module _ (table : List ℕ) (few : cells (tableIn table) .elements ≤ mostPlaces) where
   abbrev t : TableValues
   t = tableIn table
 
@@ -104,7 +106,7 @@ module _ (table : List ℕ) (few : tableIn table .elements ≤ mostElements) whe
       (bytes : List ℕ) (s : State) (records : List (List ℕ)) (answer : Answer State)
       → stepAnswer table bytes s ≡ answer
       → isRefused answer ≡ false
-      → (stateAfter answer s ≡ stepped t (inputAt t bytes) s) × All (AtItsPlace t (stateAfter answer s) records) (stepHanded t answer)
+      → (stateAfter answer s ≡ stepped t (inputAt (cells t) bytes) s) × All (AtItsPlace t (stateAfter answer s) records) (stepHanded t answer)
   unfolding isRefused stateAfter stepHanded
   step-placed bytes s records (accepted next) e ok = (stepping table bytes s next e .1, state-placed t next records)
   step-placed bytes s records (refused n) e ok = let z : _≡_ {A = ℕ} 0 1 = cc in absurd (omega arith)
@@ -130,7 +132,7 @@ module _ (table : List ℕ) (few : tableIn table .elements ≤ mostElements) whe
   run-placed s hasReading full (step bytes ∷ calls) (more p rest) =
       let records = recordsOf calls in
       let k = step-placed bytes s records (stepAnswer table bytes s) refl p in
-      let full-next = ap length (k .0) ∙ (stepped-length t (inputAt t bytes) s ∙ full) in
+      let full-next = ap length (k .0) ∙ (stepped-length t (inputAt (cells t) bytes) s ∙ full) in
       more (all-follows (later t s records bytes full few (k .0)) (k .1))
       (each-follows (later t s records bytes full few (k .0)) (run-placed (nextState table (step bytes) s) _ full-next calls rest))
   run-placed s hasReading full (forecast room ∷ calls) (more p rest) =

@@ -6,7 +6,7 @@ use mathlib.Core.Path.{_≡_, refl, sym, ap, _∙_}
 use native.Mathlib.Nat.{le-refl, add-le-add}
 use native.Mathlib.Omega.{arith}
 use lib.ListN.{length}
-use Rattle.sizes.specs.Sizes.{mostElements, stateNumbers}
+use Rattle.sizes.specs.Sizes.{mostPlaces, stateNumbers}
 use Rattle.method.specs.declared.Figures.{Figures}
 use Rattle.method.specs.Inflow.{noInflow}
 use Rattle.method.specs.AtLeast.{AtLeast}
@@ -18,7 +18,9 @@ use Rattle.table.specs.Tables.{TableValues}
 use Rattle.record.specs.Records.{Input, inputAt}
 use Rattle.record.proofs.SameLaws.{rain-related, same-release, same-observation}
 use Rattle.state.specs.declared.Rains.{Rains}
-use Rattle.state.specs.States.{State, stepsOf, figuresOf, rainsOf}
+use Rattle.cells.specs.Cells.{cells}
+use Rattle.record.proofs.CellInputs.{basins-same, dams-same, reading-same}
+use Rattle.state.specs.States.{cellFigures, cellRains, State, stepsOf, figuresOf, rainsOf}
 use Rattle.element_step.specs.ElementStep.{released, ownOf}
 use Rattle.element_step.specs.Rains.{shiftedRains}
 use Rattle.network.specs.Step.{stepOwn, observedIn, noObservation, stepFigures, stepped}
@@ -43,8 +45,8 @@ more-rain-sum m (suc (suc (suc c))) = add-le-add (add-le-add (m .first) (m .seco
 
 pub record MoreWater (t : TableValues) (s s* : State) : Type 0 where
   pub steps : stepsOf s ≡ stepsOf s*
-  pub rains : (i : ℕ) → i < t .elements → t .element i .kind ≡ basin → MoreRains (rainsOf s i) (rainsOf s* i)
-  pub figures : (i : ℕ) → i < t .elements → AtLeast (figuresOf s i) (figuresOf s* i)
+  pub rains : (i : ℕ) → i < cells t .elements → cells t .element i .kind ≡ basin → MoreRains (cellRains t s i) (cellRains t s* i)
+  pub figures : (i : ℕ) → i < cells t .elements → AtLeast (cellFigures t s i) (cellFigures t s* i)
   pub full : length s ≡ stateNumbers
   pub full* : length s* ≡ stateNumbers
 
@@ -54,7 +56,7 @@ same-start t s full =
     record {
       steps = refl;
       rains = λ i l k. record { first = le-refl _; second = le-refl _; third = le-refl _ };
-      figures = λ i l. as-much (figuresOf s i);
+      figures = λ i l. as-much (cellFigures t s i);
       full = full;
       full* = full;
     }
@@ -69,39 +71,39 @@ unfolding ownOf released
 more-own-of e p l =
     kind-both AtLeast (e .kind) p (λ _. as-much noInflow) (λ _. record { discharge = l; variance = refl }) (λ _ _ _. as-much noInflow)
 
-module _ (t : TableValues) (few : t .elements ≤ mostElements) {s s* : State} (before : MoreWater t s s*) where
+module _ (t : TableValues) (few : cells t .elements ≤ mostPlaces) {s s* : State} (before : MoreWater t s s*) where
   -- ---- a step
   module _ (one other : List ℕ) (records : MoreRain t one other) where
     abbrev input : ℕ → Input
-    input = inputAt t one
+    input = inputAt (cells t) one
 
     abbrev input* : ℕ → Input
-    input* = inputAt t other
+    input* = inputAt (cells t) other
 
-    more-rain-in : (i : ℕ) → i < t .elements → input i .rain ≤ input* i .rain
+    more-rain-in : (i : ℕ) → i < cells t .elements → input i .rain ≤ input* i .rain
     unfolding inputAt
-    more-rain-in i l = rain-related t one other i (λ (a b : ℕ). a ≤ b) (le-refl 0) (records .rains) l
+    more-rain-in i l = rain-related (cells t) one other i (λ (a b : ℕ). a ≤ b) (le-refl 0) (rw (basins-same t) (records .rains)) l
 
-    more-own : (i : ℕ) → i < t .elements → AtLeast (stepOwn t input i) (stepOwn t input* i)
+    more-own : (i : ℕ) → i < cells t .elements → AtLeast (stepOwn (cells t) input i) (stepOwn (cells t) input* i)
     unfolding stepOwn inputAt
     more-own i l =
-        more-own-of (t .element i) (λ _. more-step-inflow _ _ (more-rain-in i l)) (omega (arith, same-release t one other i (records .releases) l))
+        more-own-of (cells t .element i) (λ _. more-step-inflow _ _ (more-rain-in i l)) (omega (arith, same-release (cells t) one other i (rw (basins-same t, dams-same t) (records .releases)) l))
 
-    same-seen : (i : ℕ) → i < t .elements → observedIn input i ≡ observedIn input* i
-    unfolding observedIn inputAt
-    same-seen i l = same-observation t one other i (λ k m _. records .readings k m) (t .gauges) (omega arith)
+    same-seen : (i : ℕ) → i < cells t .elements → observedIn input i ≡ observedIn input* i
+    unfolding observedIn inputAt cells
+    same-seen i l = same-observation (cells t) one other i (λ k m _. reading-same t one k ∙ (records .readings k m ∙ sym (reading-same t other k))) (t .gauges) (omega arith)
 
-    more-figures : (i : ℕ) → i < t .elements → AtLeast (stepFigures t input s i) (stepFigures t input* s* i)
+    more-figures : (i : ℕ) → i < cells t .elements → AtLeast (stepFigures t input s i) (stepFigures t input* s* i)
     unfolding stepFigures
     more-figures =
-        more-new-figures t (stepOwn t input) (stepOwn t input*) (observedIn input) (observedIn input*) (figuresOf s) (figuresOf s*) more-own
+        more-new-figures (cells t) (stepOwn (cells t) input) (stepOwn (cells t) input*) (observedIn input) (observedIn input*) (cellFigures t s) (cellFigures t s*) more-own
         same-seen (before .figures)
 
     more-rains :
         (i : ℕ)
-        → i < t .elements
-        → t .element i .kind ≡ basin
-        → MoreRains (shiftedRains (input i .rain) (rainsOf s i)) (shiftedRains (input* i .rain) (rainsOf s* i))
+        → i < cells t .elements
+        → cells t .element i .kind ≡ basin
+        → MoreRains (shiftedRains (input i .rain) (cellRains t s i)) (shiftedRains (input* i .rain) (cellRains t s* i))
     unfolding shiftedRains
     more-rains i l k =
         let r = before .rains i l k in record { first = more-rain-in i l; second = r .first; third = r .second }
@@ -120,16 +122,16 @@ module _ (t : TableValues) (few : t .elements ≤ mostElements) {s s* : State} (
 
   -- ---- a forecast
 
-  more-lead-own : (lead i : ℕ) → i < t .elements → AtLeast (forecastOwn t s lead i) (forecastOwn t s* lead i)
+  more-lead-own : (lead i : ℕ) → i < cells t .elements → AtLeast (forecastOwn t s lead i) (forecastOwn t s* lead i)
   unfolding forecastOwn leadInflow
   more-lead-own lead i l =
-      more-own-of (t .element i)
+      more-own-of (cells t .element i)
       (λ k. rw (before .steps) (more-forecast-inflow _ _ _ lead _ (more-rain-sum (before .rains i l k) (rainCount (stepsOf s*)))))
       (before .figures i l .discharge)
 
-  pub more-at-lead : (lead i : ℕ) → i < t .elements → AtLeast (leadFigures t s lead i) (leadFigures t s* lead i)
+  pub more-at-lead : (lead i : ℕ) → i < cells t .elements → AtLeast (leadFigures t s lead i) (leadFigures t s* lead i)
   unfolding leadFigures
   more-at-lead zero i l = before .figures i l
   more-at-lead (suc lead) i l =
-      more-new-figures t (forecastOwn t s (suc lead)) (forecastOwn t s* (suc lead)) noObservation noObservation (leadFigures t s lead)
+      more-new-figures (cells t) (forecastOwn t s (suc lead)) (forecastOwn t s* (suc lead)) noObservation noObservation (leadFigures t s lead)
       (leadFigures t s* lead) (more-lead-own (suc lead)) (λ k m. refl) (more-at-lead lead) i l

@@ -5,11 +5,14 @@ use mathlib.Core.List.{List}
 use mathlib.Core.Path.{_≡_, sym, ap, _∙_}
 use native.Mathlib.Omega.{arith}
 use lib.ListN.{length}
-use Rattle.sizes.specs.Sizes.{mostElements, stateNumbers}
+use Rattle.sizes.specs.Sizes.{mostPlaces, stateNumbers}
 use Rattle.refusal.specs.Answers.{accepted}
 use Rattle.method.specs.declared.Figures.{Figures}
 use Rattle.table.specs.Tables.{TableValues}
 use Rattle.table.specs.InUse.{tableIn}
+use Rattle.cells.specs.Cells.{lastCell, cells}
+use Rattle.cells.proofs.CellLaws.{last-in-use}
+use Rattle.cells.proofs.BoundsLaws.{cells-bounds}
 use Rattle.state.specs.States.{State}
 use Rattle.state.proofs.StateLaws.{started-length}
 use Rattle.entries.specs.Entries.{startAnswer}
@@ -21,7 +24,7 @@ use Rattle.more_rain.specs.MoreRain.{MoreRain, recordsOf, AcceptedWhole,
 use Rattle.more_rain.proofs.StateLaws.{MoreWater, same-start, more-stepped, more-at-lead}
 use Rattle.more_rain.proofs.HandedLaws.{stateAt, AtItsPlace, each-follows, state-placed, run-placed}
 
-module _ (t : TableValues) (few : t .elements ≤ mostElements) where
+module _ (t : TableValues) (few : cells t .elements ≤ mostPlaces) where
   -- the states after the same number of records
   states-more :
       {s s* : State} {records records* : List (List ℕ)}
@@ -49,12 +52,12 @@ module _ (t : TableValues) (few : t .elements ≤ mostElements) where
       let done : p .done ≡ q .done = omega (arith, ap (λ (x : Place). x .steps) place) in
       let element : p .element ≡ q .element = omega (arith, ap (λ (x : Place). x .element) place) in
       rw (p .figures, q .figures, done, element, same)
-      (more-at-lead t few (states-more (same-start t s full) storms (q .done)) (other .0 .lead) (q .element) (q .inside))
+      (more-at-lead t few (states-more (same-start t s full) storms (q .done)) (other .0 .lead) (lastCell t (q .element)) (last-in-use t (q .element) (q .inside)))
 
 -- each figure of a list whose steps are accepted, the start's own first
 all-placed :
     (table : List ℕ) (s : State)
-    → tableIn table .elements ≤ mostElements
+    → cells (tableIn table) .elements ≤ mostPlaces
     → length s ≡ stateNumbers
     → (calls : List Call)
     → AcceptedWhole table s calls
@@ -75,7 +78,7 @@ unfolding AtLeastAsMuchWater
 more-rain table any s full start first second storms =
     let begun = starting table any s start in
     let t = tableIn table in
-    let few = begun .bounds .elementsMost in
+    let few = cells-bounds t (begun .bounds) .elementsMost in
     let whole = ap length (begun .state) ∙ started-length t any full few in
     each-follows
     (λ one p.

@@ -10,6 +10,7 @@ use Rattle.units.proofs.UnderLaws.{Under, none-under, parts-under, both-under}
 use Rattle.method.specs.declared.Figures.{Figures}
 use Rattle.table.specs.Tables.{TableValues}
 use Rattle.record.specs.declared.Observation.{Observation}
+use Rattle.cells.specs.Cells.{cells}
 use Rattle.state.specs.States.{State}
 use Rattle.element_step.specs.ElementStep.{elementNumbers}
 use Rattle.network.specs.Step.{weightOf, aboveOf, newFigures, networkNumbers, noObservation}
@@ -43,22 +44,22 @@ module _ (t : TableValues) (s : State) where
   abbrev pub leadOwn : ℕ → ℕ → Figures
   leadOwn l = forecastOwn t s (suc l)
 
-  pub figures-again : (l i : ℕ) → leadFigures t s (suc l) i ≡ newFigures t (leadOwn l) noObservation (leadFigures t s l) i
+  pub figures-again : (l i : ℕ) → leadFigures t s (suc l) i ≡ newFigures (cells t) (leadOwn l) noObservation (leadFigures t s l) i
   unfolding leadFigures
   figures-again l i = refl
 
   abbrev pub numbersAt : ℕ → ℕ → List ℕ
-  numbersAt l = networkNumbers t (leadOwn l) noObservation (leadFigures t s l)
+  numbersAt l = networkNumbers (cells t) (leadOwn l) noObservation (leadFigures t s l)
 
-  pub lead-part : (l n : ℕ) → l < n → Under (leadNumbers t s n) → Under (numbersAt l (t .elements))
+  pub lead-part : (l n : ℕ) → l < n → Under (leadNumbers t s n) → Under (numbersAt l (cells t .elements))
   unfolding leadNumbers
   lead-part l zero m u = absurd (omega arith)
   lead-part l (suc n) m u =
-      let p = parts-under (leadNumbers t s n) (numbersAt n (t .elements)) u in
-      ⊎-elim (λ e. subst (λ (k : ℕ). Under (numbersAt k (t .elements))) (sym e) (p .1)) (λ k. lead-part l n k (p .0))
+      let p = parts-under (leadNumbers t s n) (numbersAt n (cells t .elements)) u in
+      ⊎-elim (λ e. subst (λ (k : ℕ). Under (numbersAt k (cells t .elements))) (sym e) (p .1)) (λ k. lead-part l n k (p .0))
       (eq-or-lt-of-le (omega arith))
 
-  pub lead-whole : (n : ℕ) → ((l : ℕ) → l < n → Under (numbersAt l (t .elements))) → Under (leadNumbers t s n)
+  pub lead-whole : (n : ℕ) → ((l : ℕ) → l < n → Under (numbersAt l (cells t .elements))) → Under (leadNumbers t s n)
   unfolding leadNumbers
   lead-whole zero h = none-under
   lead-whole (suc n) h = both-under _ _ (lead-whole n (λ l m. h l (omega arith))) (h n (omega arith))

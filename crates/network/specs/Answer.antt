@@ -8,6 +8,7 @@ use Rattle.refusal.specs.Answers.{Answer, rule}
 use Rattle.units.specs.Ceiling.{underCeiling}
 use Rattle.method.specs.declared.Figures.{Figures}
 use Rattle.table.specs.Tables.{TableValues}
+use Rattle.cells.specs.Cells.{lastCell}
 use Rattle.state.specs.States.{State}
 use Rattle.network.specs.Forecast.{leadFigures, leadNumbers}
 
@@ -23,7 +24,7 @@ byElementAndLead f (suc n) w = byElementAndLead f n w ++ listed (f n) w
 
 -- the figures of each element at "lead 0 (the state itself) to L"
 unfoldable pub forecastFigures : TableValues → State → List Figures
-forecastFigures t s = byElementAndLead (λ i lead. leadFigures t s lead i) (t .elements) (t .leads + 1)
+forecastFigures t s = byElementAndLead (λ i lead. leadFigures t s lead (lastCell t i)) (t .elements) (t .leads + 1)
 
 -- 15: "The lent answer space holds fewer than 4 × N × (L + 1) numbers."
 unfoldable pub spaceFits : TableValues → ℕ → Bool

@@ -5,7 +5,8 @@ use Rattle.method.specs.declared.Figures.{Figures}
 use Rattle.method.specs.Inflow.{forecastInflow}
 use Rattle.table.specs.Tables.{TableValues}
 use Rattle.state.specs.declared.Rains.{Rains}
-use Rattle.state.specs.States.{State, stepsOf, figuresOf, rainsOf}
+use Rattle.cells.specs.Cells.{cells}
+use Rattle.state.specs.States.{State, stepsOf, cellFigures, cellRains}
 use Rattle.element_step.specs.ElementStep.{released, ownOf}
 use Rattle.network.specs.Step.{newFigures, networkNumbers, noObservation}
 
@@ -24,21 +25,22 @@ rainSum r (suc (suc (suc c))) = r .first + r .second + r .third
 unfoldable pub leadInflow : TableValues → State → ℕ → ℕ → Figures
 leadInflow t s lead i =
     let c : ℕ = rainCount (stepsOf s) in
-    forecastInflow (rainSum (rainsOf s i) c) c (t .element i .area) (t .element i .runoff) lead (t .element i .«rain_noise» .0)
+    let e = cells t .element i in
+    forecastInflow (rainSum (cellRains t s i) c) c (e .area) (e .runoff) lead (e .«rain_noise» .0)
 
 -- M-100: "The state's discharge is held through leads 1 to L, margin 0"
 unfoldable pub forecastOwn : TableValues → State → ℕ → ℕ → Figures
 forecastOwn t s lead i =
-    let e = t .element i in ownOf (e .kind) (leadInflow t s lead i) (released e (figuresOf s i .discharge .0))
+    let e = cells t .element i in ownOf (e .kind) (leadInflow t s lead i) (released e (cellFigures t s i .discharge .0))
 
 -- the figures of each element at a lead; lead 0 is the state itself
 unfoldable pub leadFigures : TableValues → State → ℕ → ℕ → Figures
-leadFigures t s zero = figuresOf s
-leadFigures t s (suc lead) = newFigures t (forecastOwn t s (suc lead)) noObservation (leadFigures t s lead)
+leadFigures t s zero = cellFigures t s
+leadFigures t s (suc lead) = newFigures (cells t) (forecastOwn t s (suc lead)) noObservation (leadFigures t s lead)
 
 -- 16, of the first leads
 unfoldable pub leadNumbers : TableValues → State → ℕ → List ℕ
 leadNumbers t s zero = []
 leadNumbers t s (suc lead) =
     leadNumbers t s lead
-    ++ networkNumbers t (forecastOwn t s (suc lead)) noObservation (leadFigures t s lead) (t .elements)
+    ++ networkNumbers (cells t) (forecastOwn t s (suc lead)) noObservation (leadFigures t s lead) (cells t .elements)

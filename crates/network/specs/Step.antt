@@ -9,7 +9,8 @@ use Rattle.table.specs.Tables.{TableValues}
 use Rattle.record.specs.declared.Observation.{Observation}
 use Rattle.record.specs.declared.Observation.the-variants.{Nothing}
 use Rattle.record.specs.Records.{Input}
-use Rattle.state.specs.States.{State, stepsOf, figuresOf, rainsOf, putSteps, putPlace, changed}
+use Rattle.cells.specs.Cells.{cells, cellPlace}
+use Rattle.state.specs.States.{State, stepsOf, cellFigures, cellRains, putSteps, putPlace, changed}
 use Rattle.walk.specs.Walk.{gathered, newCell}
 use Rattle.element_step.specs.ElementStep.{released, ownOf, elementStep, elementNumbers}
 use Rattle.element_step.specs.Rains.{shiftedRains}
@@ -59,14 +60,14 @@ noObservation i = Nothing
 -- a step from the state s, by what a record brings each element
 module _ (t : TableValues) (input : ℕ → Input) (s : State) where
   unfoldable pub stepFigures : ℕ → Figures
-  stepFigures = newFigures t (stepOwn t input) (observedIn input) (figuresOf s)
+  stepFigures = newFigures (cells t) (stepOwn (cells t) input) (observedIn input) (cellFigures t s)
 
-  -- the place of element i after it
+  -- the place of cell c after it
   unfoldable pub stepPut : ℕ → State → State
-  stepPut i = putPlace (t .element i .kind) (stepFigures i) (shiftedRains (input i .rain) (rainsOf s i)) i
+  stepPut c = putPlace (cells t .element c .kind) (stepFigures c) (shiftedRains (input c .rain) (cellRains t s c)) (cellPlace t c)
 
   unfoldable pub stepped : State
-  stepped = putSteps (changed stepPut (t .elements) s) (stepsOf s + 1)
+  stepped = putSteps (changed stepPut (cells t .elements) s) (stepsOf s + 1)
 
   unfoldable pub stepNumbers : List ℕ
-  stepNumbers = networkNumbers t (stepOwn t input) (observedIn input) (figuresOf s) (t .elements)
+  stepNumbers = networkNumbers (cells t) (stepOwn (cells t) input) (observedIn input) (cellFigures t s) (cells t .elements)

@@ -1,5 +1,6 @@
--- Serves the code: its working space holds one thing at a place. Until the turn of element number k, place k has the sum of what drains
--- into it; from its turn on, its new cell. Place 0 has what leaves the river. For any space that can be read as cells and as sums.
+-- Serves the code: its working space holds the sum of what drains into element number k until its turn, and from then on its new cell,
+-- of those elements whose cells are kept. Number 0 has what leaves the river. For any space that can be read as cells, by element, and as
+-- sums, by number.
 use Prim.Native.Nat.{ℕ, _+_, _<_}
 use mathlib.Core.Logic.{_⊎_, _≢_}
 use mathlib.Core.Path.{_≡_}
@@ -9,13 +10,13 @@ use Rattle.walk.specs.Walk.{drained, walked, newCell}
 abbrev pub Later : ℕ → ℕ → Type 0
 Later i d = (d ≡ 0) ⊎ (i + 1 < d)
 
-module _ {W A B : Type 0} (cellAt : W → ℕ → A) (sumAt : W → ℕ → B) where
-  -- what the turn of element i does to a space: its new cell at its place, and what it lets out added at place d
+module _ {W A B : Type 0} (Kept : ℕ → Type 0) (cellAt : W → ℕ → A) (sumAt : W → ℕ → B) where
+  -- what the turn of element i does to a space: its new cell is there, where it is kept, and what it lets out is added at number d
   pub record Turned (plus : B → B → B) (before after : W) (i d : ℕ) (new : A) (out : B) : Type 0 where
-    pub here : cellAt after (i + 1) ≡ new
+    pub here : Kept i → cellAt after i ≡ new
     pub added : sumAt after d ≡ plus (sumAt before d) out
-    pub cells : (k : ℕ) → k ≢ i + 1 → k ≢ d → cellAt after k ≡ cellAt before k
-    pub sums : (k : ℕ) → k ≢ i + 1 → k ≢ d → sumAt after k ≡ sumAt before k
+    pub cells : (k : ℕ) → k < i → Kept k → cellAt after k ≡ cellAt before k
+    pub sums : (k : ℕ) → Later i k → k ≢ d → sumAt after k ≡ sumAt before k
 
   -- the space after the first i elements
   pub record Held
@@ -24,4 +25,4 @@ module _ {W A B : Type 0} (cellAt : W → ℕ → A) (sumAt : W → ℕ → B) w
       : Type 0 where
     pub left : sumAt space 0 ≡ drained none plus 0 (walked none plus down cell letOut old i)
     pub waiting : (k : ℕ) → i < k → sumAt space k ≡ drained none plus k (walked none plus down cell letOut old i)
-    pub done : (k : ℕ) → k < i → cellAt space (k + 1) ≡ newCell none plus down cell letOut old k
+    pub done : (k : ℕ) → k < i → Kept k → cellAt space k ≡ newCell none plus down cell letOut old k
