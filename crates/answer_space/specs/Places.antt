@@ -4,7 +4,7 @@ use mathlib.Core.List.{List}
 use mathlib.Core.Logic.{_≢_}
 use mathlib.Core.Path.{_≡_}
 use lib.ListN.{length, getD, set}
-use Rattle.sizes.specs.Sizes.{mostElements}
+use Rattle.sizes.specs.Sizes.{mostPlaces}
 use Rattle.units.specs.Units.{C, grains, thousandths}
 use Rattle.method.specs.declared.Figures.{Figures}
 use Rattle.method.specs.Figures.{FiguresFit}
@@ -42,10 +42,10 @@ abbrev pub mostOutflow : ℕ
 mostOutflow = 2 * C
 
 abbrev pub mostSum : ℕ
-mostSum = mostElements * mostOutflow
+mostSum = mostPlaces * mostOutflow
 
 abbrev pub mostSumBefore : ℕ
-mostSumBefore = (mostElements - 1) * mostOutflow
+mostSumBefore = (mostPlaces - 1) * mostOutflow
 
 -- the numbers of a sum are at most b
 pub record FiguresBelow (f : Figures) (b : ℕ) : Type 0 where

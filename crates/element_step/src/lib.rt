@@ -10,9 +10,9 @@ ghost use Rattle.elements.specs.Kinds.{dam};
 ghost use Rattle.record.specs.declared.Observation.the-variants.{Nothing};
 ghost use Rattle.record.specs.Decoded.{ObservationFits};
 ghost use Rattle.element_step.specs.Rains.{shiftedRains};
-ghost use Rattle.element_step.specs.Bounds.{MoveInRange, StepInRange};
+ghost use Rattle.element_step.specs.Bounds.{MoveInRange, StepInRange, tankElement, TankInRange};
 ghost use Rattle.element_step.specs.ElementStep.{released};
-ghost use Rattle.element_step.specs.Answers.{correctedAnswer, movedAnswer, elementAnswer};
+ghost use Rattle.element_step.specs.Answers.{correctedAnswer, movedAnswer, storedAnswer, elementAnswer};
 use correction::correct;
 use elements::Element;
 use inflow::basin_inflow;
@@ -82,6 +82,38 @@ fn step_reach(e: Element, weight: u64, above: Figures, old: Figures) -> FiguresA
         route_discharge(weight, inflow, old),
         route_variance(weight, noise.0, inflow, old),
     )
+}
+
+// A tank at a step or a lead, a reach by itself: what drains in, judged, and the move with it. (A function of its own: were `step_reach`
+// called from a second place, the compiler would not put it into the loop over the elements.)
+fn move_tank(noise: u64, weight: u64, above: Figures, old: Figures) -> FiguresAnswer
+    requires { ⌜ TankInRange noise weight old ⌝ }
+    ensures { λ r. ⌜ (figuresAnswer r ≡ movedAnswer weight (tankElement noise) (reachInflow above) old) × AnsweredFiguresFit r ⌝ }
+{
+    let FiguresAnswer::Accepted(inflow) = reach_inflow(above) else {
+        return FiguresAnswer::Refused(Refusal::AboveCeiling);
+    };
+    routed_figures(
+        route_discharge(weight, inflow, old),
+        route_variance(weight, noise, inflow, old),
+    )
+}
+
+// The same with the correction, where something is observed.
+pub fn step_tank(
+    noise: u64,
+    weight: u64,
+    observation: Observation,
+    above: Figures,
+    old: Figures,
+) -> FiguresAnswer
+    requires { ⌜ TankInRange noise weight old × ObservationFits observation ⌝ }
+    ensures { λ r. ⌜ (figuresAnswer r ≡ storedAnswer weight (tankElement noise) observation (reachInflow above) old) × AnsweredFiguresFit r ⌝ }
+{
+    let FiguresAnswer::Accepted(x) = move_tank(noise, weight, above, old) else {
+        return FiguresAnswer::Refused(Refusal::AboveCeiling);
+    };
+    correct_by(observation, x)
 }
 
 // A dam at a step or a lead: it lets out its release, whatever drains in and whatever it had before.

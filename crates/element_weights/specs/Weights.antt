@@ -5,9 +5,14 @@ use mathlib.Core.Path.{_≡_}
 use lib.ListN.{length, getD}
 use Rattle.table.specs.declared.Counts.{Counts}
 use Rattle.table.specs.Tables.{TableValues}
-use Rattle.table.specs.Bounds.{AcceptedTable, Counted}
+use Rattle.table.specs.Bounds.{AcceptedTable, CountedPlaces}
 use Rattle.table.specs.InUse.{tableIn}
+use Rattle.cells.specs.Cells.{lastCell, cells}
 use Rattle.network.specs.Step.{weightOf}
+
+-- the weight of element i: of tanks each has "the element's lag", so that of its last cell is that of all
+abbrev pub elementWeight : TableValues → ℕ → ℕ
+elementWeight t i = weightOf (cells t) (lastCell t i)
 
 -- T and N of an accepted table
 pub record Weighable (bytes : List ℕ) (T n : ℕ) : Type 0 where
@@ -18,7 +23,7 @@ pub record Weighable (bytes : List ℕ) (T n : ℕ) : Type 0 where
 -- the weights of all elements stand in order
 pub record WeightsHeld (t : TableValues) (weight : List ℕ) : Type 0 where
   pub room : t .elements ≤ length weight
-  pub at : (i : ℕ) → i < t .elements → getD weight i 0 ≡ weightOf t i
+  pub at : (i : ℕ) → i < t .elements → getD weight i 0 ≡ elementWeight t i
 
 -- an element in use
 pub record ElementKnown (bytes : List ℕ) (T i : ℕ) : Type 0 where
@@ -28,5 +33,5 @@ pub record ElementKnown (bytes : List ℕ) (T i : ℕ) : Type 0 where
 
 -- the counts of an accepted table, and the weights of its elements
 pub record Weighed (bytes : List ℕ) (counts : Counts) (weight : List ℕ) : Type 0 where
-  pub counted : Counted bytes counts
+  pub counted : CountedPlaces bytes counts
   pub weights : WeightsHeld (tableIn bytes) weight

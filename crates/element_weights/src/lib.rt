@@ -5,15 +5,14 @@ ghost use Prim.Native.Nat.{_≤_};
 ghost use lib.ListN.{length};
 ghost use Rattle.units.specs.Units.{S};
 ghost use Rattle.table.specs.InUse.{tableIn};
-ghost use Rattle.network.specs.Step.{weightOf};
-ghost use Rattle.element_weights.specs.Weights.{Weighable, ElementKnown, WeightsHeld};
+ghost use Rattle.element_weights.specs.Weights.{elementWeight, Weighable, ElementKnown, WeightsHeld};
 use elements::lag_at;
 use weighting::weight::series_weight;
 
 // The weight of element i, worked out: a dam, whose lag is 0, has none.
 fn work_weight(table: &[u8], step: u64, i: usize) -> u64
     requires { ⌜ ElementKnown (now table) step i ⌝ }
-    ensures { λ r. ⌜ (r ≡ weightOf (tableIn (now (table .entry))) i) × (r ≤ S) ⌝ }
+    ensures { λ r. ⌜ (r ≡ elementWeight (tableIn (now (table .entry))) i) × (r ≤ S) ⌝ }
 {
     let lag = lag_at(table, i);
     if lag == 0 {

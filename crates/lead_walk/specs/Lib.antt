@@ -1,2 +1,3 @@
 pub mod Leads
 pub mod Worked
+pub mod Network

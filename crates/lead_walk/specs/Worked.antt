@@ -37,6 +37,12 @@ pub record LeadsReady (c : ElementInput) (first : Figures) (here below leads : �
   pub fits : FiguresFit first
   pub places : LeadPlaces here below leads space
 
+-- of a tank, which may be observed
+pub record TankReady (c : ElementInput) (first : Figures) (here below leads : ℕ) (space : List ℕ) : Type 0 where
+  pub inRange : InputInRange c
+  pub fits : FiguresFit first
+  pub places : LeadPlaces here below leads space
+
 -- what drains into the element at each lead
 abbrev pub drainedAt : List ℕ → ℕ → ℕ → Figures
 drainedAt space here l = figuresAt space (here + l)

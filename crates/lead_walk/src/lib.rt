@@ -1,14 +1,17 @@
-// One element through the leads of a forecast.
+// One element through the leads of a forecast; a tank through them or a step.
 ghost use mathlib.Core.Logic.{_≢_};
 ghost use mathlib.Core.Path.{_≡_};
 ghost use Rattle.elements.specs.Kinds.{dam};
-ghost use Rattle.lead_walk.specs.Worked.{LeadsReady, LeadsDone, ElementWorked};
+ghost use Rattle.one_lead.specs.Worked.{tankInput};
+ghost use Rattle.lead_walk.specs.Worked.{LeadsReady, TankReady, LeadsDone, ElementWorked};
 use method::Figures;
 use method::FiguresAnswer;
 use one_lead::ElementInput;
 use one_lead::Lead;
 use one_lead::hold_lead;
+use one_lead::tank_lead;
 use one_lead::work_lead;
+use record::Observation;
 use refusal::Refusal;
 use refusal::Verdict;
 
@@ -77,4 +80,36 @@ pub fn work_element(
         return Verdict::Accepted;
     }
     store_element(input, first, here, below, leads, space)
+}
+
+// All leads of a tank, or its step, which is one lead: whether no number passes the ceiling.
+pub fn store_tank(
+    noise: u64,
+    weight: u64,
+    observation: Observation,
+    first: Figures,
+    here: usize,
+    below: usize,
+    leads: usize,
+    space: &mut [u64],
+) -> Verdict
+    requires { ⌜ TankReady (tankInput noise weight observation) first here below leads (now space) ⌝ }
+    ensures { λ r. ⌜ ElementWorked r (tankInput noise weight observation) first here below leads (now (space .entry)) (now (space .exit)) ⌝ }
+{
+    let mut old = first;
+    for k in 0..leads {
+        let FiguresAnswer::Accepted(new) = tank_lead(
+            noise,
+            weight,
+            observation,
+            here + k,
+            below + k,
+            old,
+            &mut *space,
+        ) else {
+            return Verdict::Refused(Refusal::AboveCeiling);
+        };
+        old = new;
+    }
+    Verdict::Accepted
 }

@@ -15,18 +15,21 @@ use Rattle.method.specs.declared.Figures.{Figures}
 use Rattle.method.specs.declared.FiguresAnswer.{FiguresAnswer}
 use Rattle.method.specs.declared.FiguresAnswer.the-variants.{Accepted, Refused}
 use Rattle.method.specs.Figures.{figuresAnswer, FiguresFit, AnsweredFiguresFit}
-use Rattle.method.specs.Inflow.{joinedInflow, oldOutflow, oldAndNewOutflow}
+use Rattle.method.specs.Inflow.{reachInflow, joinedInflow, oldOutflow, oldAndNewOutflow}
 use Rattle.method.proofs.InflowLaws.{old-then-new, new-then-old, old-outflow-fits}
 use Rattle.elements.specs.Kinds.{dam}
+use Rattle.record.specs.declared.Observation.{Observation}
+use Rattle.record.specs.Decoded.{ObservationFits}
+use Rattle.element_step.specs.Bounds.{tankElement, TankInRange}
 use Rattle.element_step.specs.ElementStep.{released}
-use Rattle.element_step.specs.Answers.{elementAnswer}
-use Rattle.element_step.proofs.StepLaws.{dam-answered}
+use Rattle.element_step.specs.Answers.{storedAnswer, elementAnswer}
+use Rattle.element_step.proofs.StepLaws.{reach-answered, dam-answered}
 use Rattle.answer_space.specs.Places.{figuresAt, put, added, putAndAdded, mostSum, mostSumBefore, FiguresBelow, PlacesReady}
 use Rattle.answer_space.proofs.PlacesLaws.{put-length, put-here, put-other, fits-below, below-most, joined-below}
 use Rattle.one_lead.specs.declared.ElementInput.{ElementInput}
 use Rattle.one_lead.specs.declared.Lead.{Lead}
 use Rattle.one_lead.specs.Leads.{leadStep, leadStepNumbers}
-use Rattle.one_lead.specs.Worked.{stepLead, InputInRange, LeadReady, LeadKept, LeadWorked, DamWorked}
+use Rattle.one_lead.specs.Worked.{stepLead, InputInRange, LeadReady, LeadKept, LeadWorked, DamWorked, tankInput, TankWorked}
 
 -- ---- what is left in the space
 
@@ -221,3 +224,40 @@ dam-worked c here below old before k inRange {after = after} is kept =
               dam-lead c (record { number = number; here = here; below = below }) old before k inRange
               (record { fits = kept .fits; placed = kept .placed; added = kept .added; others = kept .others; size = kept .size });
         }
+
+-- a tank, a reach by itself
+module _
+    (noise weight : ℕ) (o : Observation) (here below : ℕ) (old : Figures) (before : List ℕ) (above : Figures) (r : FiguresAnswer)
+    (read : above ≡ figuresAt before here)
+    (worked : (figuresAnswer r ≡ storedAnswer weight (tankElement noise) o (reachInflow above) old) × AnsweredFiguresFit r) where
+  tank-answered :
+      (number : ℕ)
+      → (figuresAnswer r
+      ≡ elementAnswer weight (tankElement noise) (record { own = 0; lead = number; above = above; observation = o }) old)
+      × AnsweredFiguresFit r
+  tank-answered number = (worked .0 ∙ reach-answered _ _ _ _ refl, worked .1)
+
+  pub tank-refused : {k : Refusal} {after : List ℕ} → r ≡ Refused k → TankWorked (Refused AboveCeiling) noise weight o here below old before after
+  tank-refused is =
+      record { at = λ number. lead-refused (tankInput noise weight o) _ old before above r read (tank-answered number) is }
+
+  pub tank-accepted :
+      (x : Figures) {after : List ℕ}
+      → r ≡ Accepted x
+      → LeadKept x (oldAndNewOutflow old x) (stepLead here below) before after
+      → TankWorked (Accepted x) noise weight o here below old before after
+  tank-accepted x is kept =
+      record {
+        at = λ number.
+            lead-accepted (tankInput noise weight o) (record { number = number; here = here; below = below }) old before above r read
+            (tank-answered number) x is (oldAndNewOutflow old)
+            (record { fits = kept .fits; placed = kept .placed; added = kept .added; others = kept .others; size = kept .size });
+      }
+
+-- what the code of a tank relies on
+pub tank-ready :
+    {noise weight : ℕ} {o : Observation} {lead : Lead} {old : Figures} {space : List ℕ}
+    → LeadReady mostSumBefore (tankInput noise weight o) lead old space
+    → TankInRange noise weight old × ObservationFits o
+tank-ready h =
+    (record { systemNoise = h .inRange .element .systemNoise; weight = h .inRange .weight; old = h .old }, h .inRange .observation)

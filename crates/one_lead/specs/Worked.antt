@@ -12,8 +12,9 @@ use Rattle.method.specs.declared.FiguresAnswer.the-variants.{Accepted}
 use Rattle.method.specs.Figures.{figuresAnswer, FiguresFit}
 use Rattle.method.specs.Inflow.{joinedInflow, oldAndNewOutflow}
 use Rattle.elements.specs.Kinds.{dam}
+use Rattle.record.specs.declared.Observation.{Observation}
 use Rattle.record.specs.Decoded.{ObservationFits}
-use Rattle.element_step.specs.Bounds.{ElementInRange}
+use Rattle.element_step.specs.Bounds.{ElementInRange, tankElement}
 use Rattle.answer_space.specs.Places.{figuresAt, FiguresBelow}
 use Rattle.one_lead.specs.declared.ElementInput.{ElementInput}
 use Rattle.one_lead.specs.declared.Lead.{Lead}
@@ -63,3 +64,17 @@ pub record DamWorked (x : Figures) (c : ElementInput) (here below : ℕ) (old : 
   pub at :
       (number : ℕ)
       → LeadWorked (oldAndNewOutflow old) (Accepted x) c (record { number = number; here = here; below = below }) old before after
+
+-- what a tank is worked out from at a step or at any lead
+abbrev pub tankInput : ℕ → ℕ → Observation → ElementInput
+tankInput noise weight o =
+    record { element = tankElement noise; weight = weight; own = 0; «first_lead» = 1; observation = o }
+
+-- so with a tank, whatever the number of the lead
+pub record TankWorked
+    (r : FiguresAnswer) (noise weight : ℕ) (o : Observation) (here below : ℕ) (old : Figures) (before after : List ℕ)
+    : Type 0 where
+  pub at :
+      (number : ℕ)
+      → LeadWorked (oldAndNewOutflow old) r (tankInput noise weight o) (record { number = number; here = here; below = below }) old before
+      after

@@ -6,7 +6,7 @@ ghost use Rattle.method.specs.Inflow.{oldAndNewOutflow};
 ghost use Rattle.elements.specs.Kinds.{dam};
 ghost use Rattle.record.specs.declared.Observation.the-variants.{Nothing};
 ghost use Rattle.answer_space.specs.Places.{mostSum, mostSumBefore};
-ghost use Rattle.one_lead.specs.Worked.{stepLead, LeadReady, LeadWorked, DamWorked};
+ghost use Rattle.one_lead.specs.Worked.{stepLead, LeadReady, LeadWorked, DamWorked, tankInput, TankWorked};
 use answer_space::add_figures;
 use answer_space::figures_at;
 use answer_space::put_and_add;
@@ -14,6 +14,7 @@ use element_step::Intake;
 use element_step::dam_figures;
 use element_step::lead_element;
 use element_step::step_element;
+use element_step::step_tank;
 use elements::Element;
 use inflow::old_outflow;
 use method::Figures;
@@ -100,6 +101,28 @@ pub fn work_step(
     let FiguresAnswer::Accepted(new) = step_element(input.element, input.weight, intake, old) else {
         return FiguresAnswer::Refused(Refusal::AboveCeiling);
     };
+    put_and_add(&mut *space, here, below, new);
+    FiguresAnswer::Accepted(new)
+}
+
+// One lead of a tank, in the same way as that of an element; a step is one lead.
+pub fn tank_lead(
+    noise: u64,
+    weight: u64,
+    observation: Observation,
+    here: usize,
+    below: usize,
+    old: Figures,
+    space: &mut [u64],
+) -> FiguresAnswer
+    requires { ⌜ LeadReady mostSumBefore (tankInput noise weight observation) (stepLead here below) old (now space) ⌝ }
+    ensures { λ r. ⌜ TankWorked r noise weight observation here below old (now (space .entry)) (now (space .exit)) ⌝ }
+{
+    let above = figures_at(&*space, here);
+    let FiguresAnswer::Accepted(new) = step_tank(noise, weight, observation, above, old) else {
+        return FiguresAnswer::Refused(Refusal::AboveCeiling);
+    };
+    add_figures(&mut *space, below, old_outflow(old));
     put_and_add(&mut *space, here, below, new);
     FiguresAnswer::Accepted(new)
 }

@@ -1,7 +1,7 @@
 // The sums of the last rains, for a forecast.
 ghost use mathlib.Core.Path.{_≡_};
 ghost use Prim.Native.Nat.{_≤_, _<_};
-ghost use Rattle.sizes.specs.Sizes.{mostElements};
+ghost use Rattle.sizes.specs.Sizes.{mostPlaces};
 ghost use Rattle.state.specs.States.{rainsOf};
 ghost use Rattle.state.specs.Bounds.{RainsUnder};
 ghost use Rattle.network.specs.Forecast.{rainCount, rainSum};
@@ -31,7 +31,7 @@ fn rain_sum(rains: Rains, count: u64) -> u64
 
 // The sum of the last rains of element i, a basin.
 pub fn sum_of(state: &[u64; STATE_NUMBERS], i: usize, count: u64) -> u64
-    requires { ⌜ (i < mostElements) × ((count ≤ 3) × RainsUnder (rainsOf (now state) i)) ⌝ }
+    requires { ⌜ (i < mostPlaces) × ((count ≤ 3) × RainsUnder (rainsOf (now state) i)) ⌝ }
     ensures { λ r. ⌜ (r ≡ rainSum (rainsOf (now (state .entry)) i) count) × (r ≤ 9000) ⌝ }
 {
     rain_sum(rains_of(state, i), count)

@@ -7,13 +7,13 @@ use lib.ListN.{length, length-set, getD}
 use Rattle.sizes.specs.Sizes.{mostElements}
 use Rattle.fields.proofs.PlacesLaws.{filled-more}
 use Rattle.table.specs.InUse.{tableIn}
-use Rattle.network.specs.Step.{weightOf}
+use Rattle.element_weights.specs.Weights.{elementWeight}
 use Rattle.element_weights.proofs.put_weights.Statement.{statement}
 use Rattle.element_weights.proofs.put_weights.Tie as tie
 
 abbrev Inv-loop : tie.InvT-loop
 Inv-loop table step n weights₀ i₀ weights i =
-    (i ≤ n) × ((length weights ≡ length weights₀) × ((k : ℕ) → k < i → getD weights k 0 ≡ weightOf (tableIn table) k))
+    (i ≤ n) × ((length weights ≡ length weights₀) × ((k : ℕ) → k < i → getD weights k 0 ≡ elementWeight (tableIn table) k))
 
 abbrev μ-loop : tie.MeasureT-loop
 μ-loop table step n weights₀ i₀ weights i = n - i
