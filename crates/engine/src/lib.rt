@@ -1,6 +1,6 @@
 // The entries of document 01: start, step and forecast, on the bytes of a table and on lent numbers.
 ghost use lib.ListN.{length};
-ghost use Rattle.table.specs.Bounds.{Counted};
+ghost use Rattle.table.specs.Bounds.{CountedPlaces};
 ghost use Rattle.table.specs.InUse.{tableIn};
 ghost use Rattle.state.specs.Answers.{Answered};
 ghost use Rattle.network.specs.Lent.{Lent};
@@ -35,10 +35,13 @@ fn step_counted(
     bytes: &[u8],
     state: &mut [u64; STATE_NUMBERS],
 ) -> Verdict
-    requires { ⌜ Counted (now table) counts ⌝ }
+    requires { ⌜ CountedPlaces (now table) counts ⌝ }
     ensures { λ r. ⌜ Answered r (now (state .exit)) (stepOnAnswer (tableIn (now (table .entry))) (now (bytes .entry)) (now (state .entry))) (now (state .entry)) ⌝ }
 {
     if !state_rules::state_fits(table, counts.elements, &*state) {
+        return Verdict::Refused(Refusal::StateRange);
+    }
+    if !state_rules::tanks_fit(counts.elements, counts.extra, &*state) {
         return Verdict::Refused(Refusal::StateRange);
     }
     step_from(table, counts, bytes, state)
@@ -63,10 +66,13 @@ fn forecast_counted(
     state: &[u64; STATE_NUMBERS],
     out: &mut [u64],
 ) -> ForecastAnswer
-    requires { ⌜ Counted (now table) counts ⌝ }
+    requires { ⌜ CountedPlaces (now table) counts ⌝ }
     ensures { λ r. ⌜ Lent r (now (out .exit)) (forecastOnAnswer (tableIn (now (table .entry))) (now (state .entry)) (length (now (out .entry)))) (now (out .entry)) ⌝ }
 {
     if !state_rules::state_fits(table, counts.elements, state) {
+        return ForecastAnswer::Refused(Refusal::StateRange);
+    }
+    if !state_rules::tanks_fit(counts.elements, counts.extra, state) {
         return ForecastAnswer::Refused(Refusal::StateRange);
     }
     leads::forecast_on(table, counts, state, out)

@@ -1,9 +1,9 @@
 -- The answer of a forecast: the leads that were worked out, and rules 15 and 16.
-use Prim.Native.Nat.{ℕ, _+_, _*_, _-_, _≤_, _<_}
+use Prim.Native.Nat.{ℕ, _+_, _*_, _-_, _≤_, _<_, min}
 use mathlib.Core.Bool.{Bool, true, false}
 use mathlib.Core.List.{List, _++_}
 use mathlib.Core.Path.{_≡_, refl, sym, ap, _∙_}
-use native.Mathlib.Nat.{mul-le-mul, mul-le-mul-left}
+use native.Mathlib.Nat.{mul-le-mul, mul-le-mul-left, mul-le-mul-right}
 use native.Mathlib.Omega.{arith}
 use lib.ListN.{length, take, drop, replicate, length-drop, length-replicate}
 use lib.Seq.{paste, take-all, take-append-le, drop-append-le}
@@ -17,8 +17,10 @@ use Rattle.refusal.proofs.RuleLaws.{not-both}
 use Rattle.method.specs.declared.Figures.{Figures}
 use Rattle.table.specs.declared.Counts.{Counts}
 use Rattle.table.specs.Tables.{TableValues}
-use Rattle.table.specs.Bounds.{TableBounds, Counted}
+use Rattle.table.specs.KindCounts.{extraCount}
+use Rattle.table.specs.Bounds.{AcceptedBounds, CountedPlaces}
 use Rattle.table.specs.InUse.{tableIn}
+use Rattle.cells.specs.Cells.{lastCell}
 use Rattle.state.specs.States.{State}
 use Rattle.state.specs.Rules.{stateFits}
 use Rattle.state.proofs.BoundsLaws.{state-bounds}
@@ -32,7 +34,7 @@ use Rattle.network.proofs.LayoutLaws.{layout-length, by-lead-length}
 use Rattle.network.proofs.LentLaws.{space-refused, space-accepted, ceiling-refused, written-accepted, written-refused, none-copied, all-copied}
 use Rattle.answer_space.specs.Places.{figuresAt, Empty}
 use Rattle.answer_space.proofs.EmptyLaws.{zeros-empty}
-use Rattle.network_leads.specs.Worked.{Given, spaceSize, LeadsHeld, LeadsWorked}
+use Rattle.network_leads.specs.Worked.{Given, spareRows, spaceSize, LeadsHeld, LeadsWorked}
 use Rattle.leads.specs.Held.{answerSize, ForecastGiven, CopyReady, countedBy, Copied, ForecastHeld}
 use Rattle.leads.proofs.LayoutLaws.{figures-after, answer-laid}
 
@@ -41,15 +43,15 @@ use Rattle.leads.proofs.LayoutLaws.{figures-after, answer-laid}
 -- the counts of an accepted table, and what rule 8 gives besides
 pub given :
     {bytes : List ℕ} {counts : Counts} {s : State}
-    → Counted bytes counts
+    → CountedPlaces bytes counts
     → stateFits (tableIn bytes) s ≡ true
     → ForecastGiven bytes (counts .elements) (counts .leads) (counts .step) s
 given p h =
     record {
-      table = p .table;
-      elements = p .held .elements;
-      leads = p .held .leads;
-      step = p .held .step;
+      table = p .counted .table;
+      elements = p .counted .held .elements;
+      leads = p .counted .held .leads;
+      step = p .counted .held .step;
       state = state-bounds _ _ h;
     }
 
@@ -61,7 +63,9 @@ module _ {bytes : List ℕ} {n L T : ℕ} {s : State} (g : ForecastGiven bytes n
   -- a space has the numbers of two leads of each element
   pub elements-few : {room : ℕ} → spaceSize (tableIn bytes) ≤ room → 8 * (tableIn bytes .elements + 1) ≤ room
   elements-few l =
-      omega (arith, l, mul-le-mul-left (4 * (tableIn bytes .elements + 1)) (two-leads (tableIn bytes .leads) (g .table .bounds .leadsLeast)))
+      let t = tableIn bytes in
+      let more : t .elements + 1 ≤ t .elements + 1 + spareRows t = omega arith in
+      omega (arith, l, mul-le-mul-right (t .leads + 1) more, mul-le-mul-left (4 * (t .elements + 1)) (two-leads (t .leads) (g .table .bounds .leadsLeast)))
     where
       two-leads : (L : ℕ) → 1 ≤ L → 2 ≤ L + 1
       two-leads L h = omega arith
@@ -69,8 +73,8 @@ module _ {bytes : List ℕ} {n L T : ℕ} {s : State} (g : ForecastGiven bytes n
   pub answer-size : {needed : ℕ} → needed ≡ 4 * n * (L + 1) → needed ≡ answerSize (tableIn bytes)
   answer-size h = h ∙ rw (g .elements, g .leads)
 
-  pub space-size : {room : ℕ} → room ≡ 4 * (n + 1) * (L + 1) → room ≡ spaceSize (tableIn bytes)
-  space-size h = h ∙ rw (g .elements, g .leads)
+  pub space-size : {room x : ℕ} → x ≡ extraCount (tableIn bytes) → room ≡ 4 * (n + 1 + min x 7) * (L + 1) → room ≡ spaceSize (tableIn bytes)
+  space-size e h = h ∙ rw (g .elements, g .leads, e)
 
   pub answer-start : 4 * (L + 1) ≡ 4 * (tableIn bytes .leads + 1)
   answer-start = rw (g .leads)
@@ -79,9 +83,11 @@ pub answer-most : (n l : ℕ) → n ≤ mostElements → l ≤ mostLeads → 4 *
 answer-most n l few short =
     let next : l + 1 ≤ mostLeads + 1 = omega (arith, short) in omega (arith, mul-le-mul few next)
 
--- the answer is as long as the space without the places of what leaves the river
-space-is : (t : TableValues) → spaceSize t ≡ 4 * (t .leads + 1) + answerSize t
-space-is t = omega arith
+-- the space has the answer after the places of what leaves the river
+space-is : (t : TableValues) → 4 * (t .leads + 1) + answerSize t ≤ spaceSize t
+space-is t =
+    let more : t .elements + 1 ≤ t .elements + 1 + spareRows t = omega arith in
+    omega (arith, mul-le-mul-right (t .leads + 1) more)
 
 -- ---- spaces with nothing in them
 
@@ -114,7 +120,7 @@ module _ (t : TableValues) (space : List ℕ) (room : spaceSize t ≤ length spa
   unfolding forecastFigures
   laid s h =
       ap (λ (k : ℕ). take k part) same
-      ∙ answer-laid part (λ i lead. leadFigures t s lead i) (t .elements) (t .leads + 1) at (omega (arith, answer-there))
+      ∙ answer-laid part (λ i lead. leadFigures t s lead (lastCell t i)) (t .elements) (t .leads + 1) at (omega (arith, answer-there))
     where
       same : answerSize t ≡ 4 * (t .elements * (t .leads + 1))
       same = omega arith
@@ -126,7 +132,7 @@ module _ (t : TableValues) (space : List ℕ) (room : spaceSize t ≤ length spa
           (i lead : ℕ)
           → i < t .elements
           → lead < t .leads + 1
-          → figuresAt part (i * (t .leads + 1) + lead) ≡ leadFigures t s lead i
+          → figuresAt part (i * (t .leads + 1) + lead) ≡ leadFigures t s lead (lastCell t i)
       at i lead l m =
           figures-after space (t .leads + 1) (i * (t .leads + 1) + lead)
           ∙ (ap (figuresAt space) (next i lead) ∙ h .at i lead l m)
@@ -134,7 +140,7 @@ module _ (t : TableValues) (space : List ℕ) (room : spaceSize t ≤ length spa
 layout-size : (t : TableValues) (s : State) → length (layout (forecastFigures t s)) ≡ answerSize t
 unfolding forecastFigures
 layout-size t s =
-    layout-length _ ∙ same (by-lead-length (λ i lead. leadFigures t s lead i) (t .elements) (t .leads + 1))
+    layout-length _ ∙ same (by-lead-length (λ i lead. leadFigures t s lead (lastCell t i)) (t .elements) (t .leads + 1))
   where
     same : {n : ℕ} → n ≡ t .elements * (t .leads + 1) → 4 * n ≡ answerSize t
     same e = omega (arith, e)
@@ -183,7 +189,7 @@ lent-by t s under h size c = rw (c, size) h
 
 -- the first numbers of the space after the call are those that were worked in
 module _
-    (t : TableValues) (s : State) (b : TableBounds t) {v : Verdict} (worked rest : List ℕ) (long : length worked ≡ spaceSize t)
+    (t : TableValues) (s : State) (b : AcceptedBounds t) {v : Verdict} (worked rest : List ℕ) (long : length worked ≡ spaceSize t)
     (h : LeadsWorked v worked t s) where
   fits : answerSize t ≤ answerNumbers
   fits = answer-most _ _ (b .elementsMost) (b .leadsMost)

@@ -1,10 +1,10 @@
 // The forecast: the spaces that it is worked out in, and what is copied out of them; rules 15 and 16.
 ghost use mathlib.Core.Bool.{true};
 ghost use mathlib.Core.Path.{_≡_};
-ghost use Prim.Native.Nat.{_+_, _*_, _≤_};
+ghost use Prim.Native.Nat.{_+_, _*_, _≤_, min};
 ghost use lib.ListN.{length};
 ghost use Rattle.sizes.specs.Sizes.{mostElements, mostLeads, answerNumbers, tinyForecastElements, smallForecastElements, tinyForecastSpace, smallForecastSpace, mediumForecastSpace, forecastSpace};
-ghost use Rattle.table.specs.Bounds.{Counted};
+ghost use Rattle.table.specs.Bounds.{CountedPlaces};
 ghost use Rattle.table.specs.InUse.{tableIn};
 ghost use Rattle.state.specs.Rules.{stateFits};
 ghost use Rattle.element_weights.specs.Weights.{Weighed};
@@ -37,12 +37,22 @@ fn answer_numbers(elements: usize, leads: usize) -> usize
     4 * elements * (leads + 1)
 }
 
-// How many numbers of a space are worked in: as many as the answer has, and those that take what leaves the river.
-fn space_numbers(elements: usize, leads: usize) -> usize
-    requires { ⌜ (elements ≤ mostElements) × (leads ≤ mostLeads) ⌝ }
-    ensures { λ r. ⌜ (r ≡ 4 * (elements + 1) * (leads + 1)) × (r ≤ forecastSpace) ⌝ }
+// Rows for the tanks of one element above its last: as many as there are, and no more than one element has.
+fn spare_rows(extra: usize) -> usize
+    ensures { λ r. ⌜ (r ≡ min extra 7) × (r ≤ 7) ⌝ }
 {
-    4 * (elements + 1) * (leads + 1)
+    if extra < 7 {
+        return extra;
+    }
+    7
+}
+
+// How many numbers of a space are worked in: as many as the answer has, those that take what leaves the river, and rows for tanks.
+fn space_numbers(elements: usize, extra: usize, leads: usize) -> usize
+    requires { ⌜ (elements ≤ mostElements) × (leads ≤ mostLeads) ⌝ }
+    ensures { λ r. ⌜ (r ≡ 4 * (elements + 1 + min extra 7) * (leads + 1)) × (r ≤ forecastSpace) ⌝ }
+{
+    4 * (elements + 1 + spare_rows(extra)) * (leads + 1)
 }
 
 // A forecast from a state that rule 8 accepts, with the weights of the elements and a space lent, in which the answer begins after the places
@@ -63,7 +73,7 @@ pub fn forecast_in(
         return forecast_in(table, counts, weights, state, space, false);
     }
     let needed = answer_numbers(counts.elements, counts.leads);
-    let room = space_numbers(counts.elements, counts.leads);
+    let room = space_numbers(counts.elements, counts.extra, counts.leads);
     let part = &mut space[..room];
     clear(&mut *part);
     let Verdict::Accepted = work_leads(table, counts.elements, counts.leads, weights, state, part)
@@ -189,7 +199,7 @@ pub fn forecast_on(
     state: &[u64; STATE_NUMBERS],
     out: &mut [u64],
 ) -> ForecastAnswer
-    requires { ⌜ Counted (now table) counts × (stateFits (tableIn (now table)) (now state) ≡ true) ⌝ }
+    requires { ⌜ CountedPlaces (now table) counts × (stateFits (tableIn (now table)) (now state) ≡ true) ⌝ }
     ensures { λ r. ⌜ Lent r (now (out .exit)) (leadsAnswer (tableIn (now (table .entry))) (now (state .entry)) (length (now (out .entry)))) (now (out .entry)) ⌝ }
 {
     let n = counts.elements;
@@ -199,7 +209,7 @@ pub fn forecast_on(
     if out.len() < needed {
         return ForecastAnswer::Refused(Refusal::AnswerSpace);
     }
-    let room = space_numbers(n, leads);
+    let room = space_numbers(n, counts.extra, leads);
     if room <= TINY_FORECAST_SPACE {
         return counted_by(in_tiny(table, n, leads, step, state, out), needed);
     }

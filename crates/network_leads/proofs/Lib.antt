@@ -1,3 +1,5 @@
 pub mod InputLaws
 pub mod WorkLaws
 pub mod TurnLaws
+pub mod TankTurnLaws
+pub mod RunLaws

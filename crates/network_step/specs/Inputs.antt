@@ -34,7 +34,7 @@ stepInput table i weight bytes b passed o =
 
 -- what the code of it relies on
 pub record StepInputReady (table : List ℕ) (i : ℕ) (bytes : List ℕ) (b : ℕ) (passed : Passed) : Type 0 where
-  pub there : (i ≤ 255) × (26 * i + 36 ≤ length table)
+  pub there : (i ≤ 1000) × (26 * i + 36 ≤ length table)
   pub rain : elementAt table i .kind ≡ basin → 2 * passed .basins + 5 ≤ length bytes
   pub rainMost : elementAt table i .kind ≡ basin → rainAt bytes (passed .basins) ≤ 3000
   pub release : elementAt table i .kind ≡ dam → 2 * b + 4 * passed .dams + 7 ≤ length bytes

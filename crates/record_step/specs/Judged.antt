@@ -13,9 +13,10 @@ use Rattle.refusal.specs.Verdicts.{verdictAnswer}
 use Rattle.units.specs.Ceiling.{underCeiling}
 use Rattle.table.specs.declared.Counts.{Counts}
 use Rattle.table.specs.Tables.{TableValues}
-use Rattle.table.specs.KindCounts.{basinCount, damCount}
+use Rattle.table.specs.KindCounts.{basinCount, damCount, extraCount}
 use Rattle.table.specs.Bounds.{AcceptedTable, Counted}
 use Rattle.table.specs.InUse.{tableIn}
+use Rattle.cells.specs.Cells.{cells}
 use Rattle.record.specs.Records.{inputAt}
 use Rattle.record.specs.Rules.{recordRules}
 use Rattle.record.specs.Decoded.{HoldsObservations}
@@ -27,10 +28,11 @@ use Rattle.next_state.specs.Written.{FiguresHeld}
 use Rattle.entries.specs.Entries.{stepRules}
 use Rattle.entries.specs.Trials.{trialSpaceFits}
 
--- an accepted table with so many elements, basins and dams, and a state that rule 8 accepts
-pub record RiverGiven (table : List ℕ) (n basins dams : ℕ) (s : State) : Type 0 where
+-- an accepted table with so many elements, tanks above the last of their elements, basins and dams, and a state that rule 8 accepts
+pub record RiverGiven (table : List ℕ) (n extra basins dams : ℕ) (s : State) : Type 0 where
   pub accepts : AcceptedTable table
   pub elements : n ≡ tableIn table .elements
+  pub extraAll : extra ≡ extraCount (tableIn table)
   pub basinsAll : basins ≡ basinCount (tableIn table)
   pub damsAll : dams ≡ damCount (tableIn table)
   pub fits : stateFits (tableIn table) s ≡ true
@@ -53,7 +55,7 @@ pub record StepJudged (t : TableValues) (bytes : List ℕ) (s : State) (verdict 
 -- lends itself 4 N
 unfoldable pub workedAnswer : {A : Type 0} → TableValues → List ℕ → State → ℕ → A → Answer A
 workedAnswer t bytes s lent a =
-    stepRules t bytes s (rule 15 (trialSpaceFits t lent) (underCeiling (stepNumbers t (inputAt t bytes) s) a))
+    stepRules t bytes s (rule 15 (trialSpaceFits t lent) (underCeiling (stepNumbers t (inputAt (cells t) bytes) s) a))
 
 -- an accepted table with so many basins and dams, a state that rule 8 accepts, a number an element for its weight, and two a gauge
 pub record RecordGiven (table : List ℕ) (basins dams : ℕ) (s : State) (own observed : List ℕ) : Type 0 where
@@ -71,11 +73,12 @@ pub record RecordWorked (verdict : Verdict) (space : List ℕ) (t : TableValues)
   pub whole : length s ≡ stateNumbers
 
 -- what writing the state relies on
-pub record WriteGiven (verdict : Verdict) (table : List ℕ) (n : ℕ) (bytes space : List ℕ) (s : State) : Type 0 where
+pub record WriteGiven (verdict : Verdict) (table : List ℕ) (n extra : ℕ) (bytes space : List ℕ) (s : State) : Type 0 where
   pub accepts : AcceptedTable table
   pub elements : n ≡ tableIn table .elements
+  pub extraAll : extra ≡ extraCount (tableIn table)
   pub fits : stateFits (tableIn table) s ≡ true
-  pub room : 4 * (n + 1) ≤ length space
+  pub room : 4 * (n + extra + 1) ≤ length space
   pub worked : RecordWorked verdict space (tableIn table) bytes s (4 * n)
 
 -- what a step with weights and space lent relies on

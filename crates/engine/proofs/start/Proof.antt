@@ -15,7 +15,7 @@ enum-told c = search needs
 start-on-requires : tie.Need-start-on-requires
 start-on-requires c κs =
     let e = c .before in
-    let k = table-accepted _ _ (e .before .before .before .read .ensures) (e .enum-told .given .1) in (k .counted .table, k .counted .held .elements)
+    let k = table-accepted _ _ (e .before .before .before .read .ensures) (e .enum-told .given .1) in (k .counted .counted .table, k .counted .counted .held .elements)
 
 enum-told-2 : tie.Need-enum-told-2
 enum-told-2 c = search needs

@@ -14,7 +14,7 @@ enum-told c = search needs
 
 look-at-field-requires : tie.Need-look-at-field-requires
 look-at-field-requires c κs =
-    counted-table _ _ (table-accepted _ _ (c .before .before .before .read .ensures) (c .enum-told .given .1) .counted)
+    counted-table _ _ (table-accepted _ _ (c .before .before .before .read .ensures) (c .enum-told .given .1) .counted .counted)
 
 enum-known-verdict : tie.Need-enum-known-verdict
 enum-known-verdict c = search needs

@@ -63,7 +63,7 @@ module _ (t : ℕ) where
   part-long n = length-take-le _ (start n .args .space .now) (omega (arith, n .space-numbers .ensures .1, start n .pre .1 .1 .1))
 
   room-is : (n : Sized) → n .space-numbers .result ≡ spaceSize (river n)
-  room-is n = let p = start n .pre .1 in space-size (given (p .0 .counted) (p .1 .0)) (n .space-numbers .ensures .0)
+  room-is n = let p = start n .pre .1 in space-size (given (p .0 .counted) (p .1 .0)) (p .0 .counted .extra) (n .space-numbers .ensures .0)
 
   worked-long : (w : Worked) → length (w .work-leads .last .1 .1 .1 .1 .1 .0) ≡ spaceSize (river (sized (cleared w)))
   worked-long w =
@@ -118,7 +118,7 @@ forecast-in-same-length-2 t c = search needs
 forecast-in-returns-2 : (t : ℕ) → forecast-in-lts.Need-returns-2 (claims t) (forecast-in-at t) forecast-in.Post
 forecast-in-returns-2 t c =
     let w = c .before .before .before .before in
-    held-refused _ _ (start t (sized t (cleared t w)) .pre .1 .0 .counted .table .bounds) _ _ (worked-long t w) (w .work-leads .ensures) (c .enum-told2 .given .1)
+    held-refused _ _ (start t (sized t (cleared t w)) .pre .1 .0 .counted .counted .table .bounds) _ _ (worked-long t w) (w .work-leads .ensures) (c .enum-told2 .given .1)
 
 forecast-in-same-length-3 : (t : ℕ) → forecast-in-lts.Need-same-length-3 (claims t) (forecast-in-at t) forecast-in.Post
 forecast-in-same-length-3 t c = search needs
@@ -128,7 +128,7 @@ forecast-in-returns-3 t c =
     let w = c .before .before .before .before in
     let n = sized t (cleared t w) in
     let p = start t n .pre .1 in
-    held-accepted _ _ (p .0 .counted .table .bounds) _ _ (worked-long t w) (w .work-leads .ensures)
+    held-accepted _ _ (p .0 .counted .counted .table .bounds) _ _ (worked-long t w) (w .work-leads .ensures)
     (answer-size (given (p .0 .counted) (p .1 .0)) (n .before .answer-numbers .ensures .0)) (c .enum-told .given .1)
 
 pub +forecast-in-spec : {M : Type 1} → statement M

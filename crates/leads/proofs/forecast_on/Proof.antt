@@ -34,7 +34,7 @@ asked n = n .before .before
 -- a space that has room, and how many elements a river has that it has room for
 module _ (n : tie.After-space-numbers) where
   roomy : {room : ℕ} → n .space-numbers .result ≤ room → spaceSize (river (asked n)) ≤ room
-  roomy l = omega (arith, l, space-size (known (asked n)) (n .space-numbers .ensures .0))
+  roomy l = omega (arith, l, space-size (known (asked n)) (start (asked n) .pre .0 .extra) (n .space-numbers .ensures .0))
 
   few : {room : ℕ} → n .space-numbers .result ≤ room → 8 * (river (asked n) .elements + 1) ≤ room
   few l = elements-few (known (asked n)) (roomy l)
@@ -116,7 +116,7 @@ returns-4 c =
 in-large-requires : tie.Need-in-large-requires
 in-large-requires c κs =
     let n = c .before .before .before .before in
-    ready n _ _ (n .space-numbers .ensures .1) (start (asked n) .pre .0 .table .bounds .elementsMost)
+    ready n _ _ (n .space-numbers .ensures .1) (start (asked n) .pre .0 .counted .table .bounds .elementsMost)
 
 counted-by-requires-4 : tie.Need-counted-by-requires-4
 counted-by-requires-4 c κs = search needs

@@ -1,193 +1,166 @@
 -- `work_leads` meets its contract.
-use Prim.Native.Nat.{_+_, _*_, _≤_, _<_, _-_}
-use mathlib.Core.Path.{_≡_, refl}
+use Prim.Native.Nat.{_+_, _≤_, _-_}
+use mathlib.Core.Path.{_≡_, refl, sym, ap, _∙_}
 use borrow.Author.Needs.{needs}
 use native.Mathlib.Omega.{arith}
-use lib.ListN.{length, getD}
-use Rattle.sizes.specs.Sizes.{mostElements, forecastSpace}
+use lib.ListN.{length}
+use Rattle.elements.specs.declared.Element.{Element}
+use Rattle.elements.specs.Elements.{elementAt}
+use Rattle.elements.specs.Kinds.{tanks}
+use Rattle.table.specs.KindCounts.{extraBefore}
 use Rattle.table.specs.InUse.{tableIn}
 use Rattle.table.specs.Tables.{TableValues}
-use Rattle.table.proofs.HeldLaws.{element-there}
+use Rattle.table.proofs.InUseLaws.{element-read}
+use Rattle.table.proofs.CountLaws.{extra-none}
+use Rattle.table.proofs.HeldLaws.{element-there, tanks-known}
 use Rattle.element_weights.proofs.WeightsLaws.{weight-held}
-use Rattle.network_leads.specs.Worked.{spaceSize}
-use Rattle.network_leads.proofs.WorkLaws.{Worked, worked-begin, worked-accepted}
-use Rattle.network_leads.proofs.TurnLaws.{few-leads, place-fits, next-fits, Turn, places-there, below-most, turn-ready, turn-refused, turn-again}
+use Rattle.network_leads.specs.Worked.{spaceSize, LeadsSoFar, TanksNext}
+use Rattle.network_leads.proofs.WorkLaws.{worked-begin, worked-accepted, worked-refused}
+use Rattle.network_leads.proofs.TankTurnLaws.{weight-there, tanks-ready, next-tanks, next-few, next-known}
 use Rattle.network_leads.proofs.work_leads.Statement.{statement}
 use Rattle.network_leads.proofs.work_leads.Tie as tie
 
 abbrev Inv-loop : tie.InvT-loop
-Inv-loop table n leads weights state space₀ width steps count i₀ space i = (i ≤ n) × ((length space ≡ length space₀) × Worked (tableIn table) state leads i i space)
+Inv-loop table n leads weights state space₀ from₀ x₀ space from x =
+    ((from ≤ n) × (x ≡ n + extraBefore (tableIn table) from))
+    × ((length space ≡ length space₀) × LeadsSoFar (tableIn table) state leads from from space)
 
 abbrev μ-loop : tie.MeasureT-loop
-μ-loop table n leads weights state space₀ width steps count i₀ space i = n - i
+μ-loop table n leads weights state space₀ from₀ x₀ space from x = n - from
 
-abbrev start : tie.In-loop Inv-loop μ-loop → tie.Start Inv-loop μ-loop
-start c = c .before .before .before .before .before .before .before
+abbrev start : tie.At-loop Inv-loop μ-loop → tie.Start Inv-loop μ-loop
+start c = c .before .before .before .before
 
-abbrev river : tie.In-loop Inv-loop μ-loop → TableValues
+abbrev river : tie.At-loop Inv-loop μ-loop → TableValues
 river c = tableIn (start c .args .table .now)
-
--- an element in use
-module _ (c : tie.In-loop Inv-loop μ-loop) where
-  used : c .before .loop .i < river c .elements
-  used = omega (arith, c .loop-test .taken, start c .pre .0 .elements)
-
-  few : c .before .loop .i < mostElements
-  few = omega (arith, used, start c .pre .0 .table .bounds .elementsMost)
-
-  room : spaceSize (river c) ≤ length (c .before .loop .space)
-  room = omega (arith, start c .pre .1 .room, c .before .loop .inv .1 .0)
-
-  own-there : 4 * ((c .before .loop .i + 1) * (start c .args .leads + 1) + (start c .args .leads + 1)) ≤ length (c .before .loop .space)
-  own-there = places-there (start c .pre .0) (c .before .loop .space) room (c .before .loop .i + 1) (omega (arith, used))
-
--- its turn of the loop, from where its figures are put, its input is made, and its leads are worked out
-abbrev turn : tie.After-put-figures Inv-loop μ-loop → tie.In-loop Inv-loop μ-loop
-turn c = c .before .before .before
-
-abbrev placed : tie.After-lead-input Inv-loop μ-loop → tie.After-put-figures Inv-loop μ-loop
-placed c = c .before .before .before .before
-
-abbrev made : tie.After-work-element Inv-loop μ-loop → tie.After-lead-input Inv-loop μ-loop
-made c = c .before .before .before .before
-
--- what is known of it there
-turned :
-    (a : tie.After-lead-input Inv-loop μ-loop)
-    → Turn (start (turn (placed a)) .pre .0) (turn (placed a) .before .loop .i) (turn (placed a) .before .loop .space)
-    (placed a .before .before .figures-of .result) (placed a .put-figures .last .0) (getD (start (turn (placed a)) .args .weights .now) (turn (placed a) .before .loop .i) 0)
-    (turn (placed a) .before .before .rain-count .result) (a .lead-input .result)
-turned a =
-    let p = placed a in
-    let l = turn p in
-    record {
-      used = used l;
-      room = room l;
-      worked = l .before .loop .inv .1 .1;
-      first = p .before .before .figures-of .ensures;
-      placed = p .put-figures .ensures;
-      weighed = weight-held (start l .pre .0 .weights) _ (used l);
-      few = l .before .before .rain-count .ensures .0;
-      made = a .lead-input .ensures;
-    }
-
--- the first place of the element below
-below : (a : tie.After-lead-input Inv-loop μ-loop) → a .lead-input .result .element .down * (start (turn (placed a)) .args .leads + 1) ≤ forecastSpace
-below a =
-    let p = placed a in
-    let l = turn p in
-    below-most (start l .pre .0) (turned a)
-
-add-width : tie.Need-add-width Inv-loop μ-loop
-add-width c = omega (arith, few-leads (c .before .before .before .pre .0))
-
-element-copy-out-steps : tie.Need-element-copy-out-steps Inv-loop μ-loop
-element-copy-out-steps c = search needs
-
-rain-count-requires : tie.Need-rain-count-requires Inv-loop μ-loop
-rain-count-requires c κs = search needs
 
 loop-holds : tie.Need-loop-holds Inv-loop μ-loop
 loop-holds c =
-    let p = c .before .before .before .before .before .pre in
-    (omega arith, (refl, worked-begin _ _ _ _ (p .1 .empty)))
+    let s = c .before .before .before in
+    ((omega arith, omega (arith, extra-none (tableIn (s .args .table .now)))), (refl, worked-begin _ _ _ _ (s .pre .1 .empty)))
 
-figures-of-requires : tie.Need-figures-of-requires Inv-loop μ-loop
-figures-of-requires c κs = few c
+work-run-requires : tie.Need-work-run-requires Inv-loop μ-loop
+work-run-requires c κs =
+    let l = c .before in
+    let p = start l .pre in
+    let inv = l .loop .inv in
+    (p .0, record { few = omega (arith, inv .0 .0, p .0 .elements); room = omega (arith, p .1 .room, inv .1 .0); held = inv .1 .1 })
 
-add-own : tie.Need-add-own Inv-loop μ-loop
-add-own c = omega (arith, few (c .before))
-
-mul-own : tie.Need-mul-own Inv-loop μ-loop
-mul-own c = omega (arith, own-there (c .before))
-
-add-here : tie.Need-add-here Inv-loop μ-loop
-add-here c = omega (arith, own-there (c .before))
-
-put-figures-requires : tie.Need-put-figures-requires Inv-loop μ-loop
-put-figures-requires c κs =
-    omega (arith, own-there (c .before .before))
-
-kind-at-requires : tie.Need-kind-at-requires Inv-loop μ-loop
-kind-at-requires c κs =
-    let l = turn (c .before .before) in element-there _ (start l .pre .0 .table) (used l)
-
-lead-input-requires : tie.Need-lead-input-requires Inv-loop μ-loop
-lead-input-requires c κs =
-    let l = turn (c .before .before .before) in
-    let g = start l .pre .0 in
-    record {
-      table = g .table;
-      used = used l;
-      is = c .kind-at .ensures;
-      weighed = omega (arith, used l, g .weights .room);
-      state = g .state;
-      few = l .before .before .rain-count .ensures .1;
-    }
-
-mul-below : tie.Need-mul-below Inv-loop μ-loop
-mul-below c = place-fits _ (below (c .before .before))
-
-add-below : tie.Need-add-below Inv-loop μ-loop
-add-below c = next-fits _ (below (c .before .before))
-
-work-element-requires : tie.Need-work-element-requires Inv-loop μ-loop
-work-element-requires c κs =
-    let a = c .before .before .before in
-    let p = placed a in
-    let l = turn p in
-    turn-ready (start l .pre .0) (turned a)
+-- a run and where it began
+abbrev begun : tie.After-work-run Inv-loop μ-loop → tie.At-loop Inv-loop μ-loop
+begun c = c .before .before
 
 enum-told : tie.Need-enum-told Inv-loop μ-loop
 enum-told c = search needs
 
-enum-told-2 : tie.Need-enum-told-2 Inv-loop μ-loop
-enum-told-2 c = search needs
-
 same-length : tie.Need-same-length Inv-loop μ-loop
-same-length c =
-    let k = c .before .before .before .before in
-    let p = placed (made k) in
-    omega (arith, k .work-element .kept, p .put-figures .kept, turn p .before .loop .inv .1 .0)
+same-length c = let r = c .before .before .before .before in omega (arith, r .work-run .kept, begun r .loop .inv .1 .0)
 
 returns : tie.Need-returns Inv-loop μ-loop
 returns c =
-    let k = c .before .before .before .before in
-    let a = made k in
-    let p = placed a in
-    let l = turn p in
-    turn-refused (start l .pre .0) (turned a) _ _ (k .work-element .ensures) (c .enum-told2 .given .1)
+    let r = c .before .before .before .before in
+    worked-accepted _ _ _ (start (begun r) .pre .0 .leads) _ (r .work-run .ensures .done (c .enum-told .given .1))
 
-add-i : tie.Need-add-i Inv-loop μ-loop
-add-i c =
-    let k = c .before .before .before .before in
-    omega (arith, few (turn (placed (made k))))
-
-loop-less : tie.Need-loop-less Inv-loop μ-loop
-loop-less c = search needs
-
-loop-again : tie.Need-loop-again Inv-loop μ-loop
-loop-again c =
-    let k = c .before .before .before .before in
-    let a = made k in
-    let p = placed a in
-    let l = turn p in
-    let inv = l .before .loop .inv .1 in (
-      omega (arith, l .loop-test .taken),
-      (
-        omega (arith, k .work-element .kept, p .put-figures .kept, inv .0),
-        turn-again (start l .pre .0) (turned a) _ _ (k .work-element .ensures) (c .enum-told .given .1),
-      ),
-    )
+enum-told-2 : tie.Need-enum-told-2 Inv-loop μ-loop
+enum-told-2 c = search needs
 
 same-length-2 : tie.Need-same-length-2 Inv-loop μ-loop
-same-length-2 c = search needs
+same-length-2 c = let r = c .before .before .before .before in omega (arith, r .work-run .kept, begun r .loop .inv .1 .0)
 
 returns-2 : tie.Need-returns-2 Inv-loop μ-loop
 returns-2 c =
-    let l = c .before in
-    let p = l .before .before .before .before .before .before .pre .0 in
-    worked-accepted _ _ _ (p .leads) _ _ (l .loop .inv .1 .1) (omega (arith, l .loop .inv .0, c .loop-test .left, p .elements))
+    let r = c .before .before .before .before in
+    worked-refused _ _ _ (start (begun r) .pre .0 .leads) _ (r .work-run .ensures .above (c .enum-told2 .given .1))
+
+enum-known-end : tie.Need-enum-known-end Inv-loop μ-loop
+enum-known-end c = search needs
+
+-- an element of tanks at which a run ended
+abbrev run : tie.After-end Inv-loop μ-loop → tie.After-work-run Inv-loop μ-loop
+run c = c .before .before .before .before
+
+next :
+    (c : tie.After-end Inv-loop μ-loop)
+    → let l = begun (run c) in
+    TanksNext (river l) (start l .args .state .now) (start l .args .leads) (l .loop .from) (c .end .given .0 .0) (run c .work-run .last .1 .1 .1 .1 .1 .1 .0)
+next c = run c .work-run .ensures .next _ (c .end .given .1)
+
+mul-work-tanks : tie.Need-mul-work-tanks Inv-loop μ-loop
+mul-work-tanks c =
+    let e = c .before in
+    let l = begun (run e) in
+    omega (arith, next e .used, start l .pre .0 .table .bounds .elementsMost)
+
+shared-slice-read-work-tanks : tie.Need-shared-slice-read-work-tanks Inv-loop μ-loop
+shared-slice-read-work-tanks c =
+    let e = c .before .before in weight-there (start (begun (run e)) .pre .0) (next e)
+
+work-tanks-requires : tie.Need-work-tanks-requires Inv-loop μ-loop
+work-tanks-requires c κs =
+    let e = c .before .before .before in
+    let l = begun (run e) in
+    let p = start l .pre in
+    let inv = l .loop .inv in
+    tanks-ready (p .0) (next e) (inv .0 .1) (omega (arith, p .1 .room, run e .work-run .kept, inv .1 .0))
+
+-- its turn, from where it is worked out
+abbrev ended : tie.After-work-tanks Inv-loop μ-loop → tie.After-end Inv-loop μ-loop
+ended c = c .before .before .before .before
+
+enum-told-3 : tie.Need-enum-told-3 Inv-loop μ-loop
+enum-told-3 c = search needs
+
+enum-told-4 : tie.Need-enum-told-4 Inv-loop μ-loop
+enum-told-4 c = search needs
+
+same-length-3 : tie.Need-same-length-3 Inv-loop μ-loop
+same-length-3 c =
+    let w = c .before .before .before .before in
+    let r = run (ended w) in
+    omega (arith, w .work-tanks .kept, r .work-run .kept, begun r .loop .inv .1 .0)
+
+returns-3 : tie.Need-returns-3 Inv-loop μ-loop
+returns-3 c =
+    let w = c .before .before .before .before in
+    let l = begun (run (ended w)) in
+    worked-refused _ _ _ (start l .pre .0 .leads) _ (w .work-tanks .ensures .above _ (c .enum-told4 .given .1))
+
+-- it is worked out
+abbrev turned : tie.After-enum-told3 Inv-loop μ-loop → tie.After-end Inv-loop μ-loop
+turned c = ended (c .before .before .before .before)
+
+extra-at-requires : tie.Need-extra-at-requires Inv-loop μ-loop
+extra-at-requires c κs = let e = turned c in next-known (start (begun (run e)) .pre .0) (next e)
+
+add-x : tie.Need-add-x Inv-loop μ-loop
+add-x c =
+    let e = turned (c .before) in
+    let l = begun (run e) in
+    omega (arith, next-few (start l .pre .0) (next e) (l .loop .inv .0 .1) (c .extra-at .ensures))
+
+add-from : tie.Need-add-from Inv-loop μ-loop
+add-from c =
+    let e = turned (c .before) in
+    omega (arith, next e .used, start (begun (run e)) .pre .0 .table .bounds .elementsMost)
+
+loop-less : tie.Need-loop-less Inv-loop μ-loop
+loop-less c =
+    let e = turned (c .before) in
+    let l = begun (run e) in
+    omega (arith, next e .later, next e .used, start l .pre .0 .elements)
+
+loop-again : tie.Need-loop-again Inv-loop μ-loop
+loop-again c =
+    let told = c .before in
+    let w = told .before .before .before .before in
+    let e = turned told in
+    let r = run e in
+    let l = begun r in
+    let p = start l .pre .0 in
+    let inv = l .loop .inv in (
+      (omega (arith, next e .used, p .elements), next-tanks p (next e) (inv .0 .1) (c .extra-at .ensures)),
+      (omega (arith, w .work-tanks .kept, r .work-run .kept, inv .1 .0), w .work-tanks .ensures .done (told .enum-told3 .given .1)),
+    )
 
 pub work-leads-spec : {M : Type 1} → statement M
 work-leads-spec =
@@ -195,26 +168,24 @@ work-leads-spec =
     (tie.spec
     Inv-loop
     μ-loop
-    add-width
-    element-copy-out-steps
-    rain-count-requires
     loop-holds
-    figures-of-requires
-    add-own
-    mul-own
-    add-here
-    put-figures-requires
-    kind-at-requires
-    lead-input-requires
-    mul-below
-    add-below
-    work-element-requires
+    work-run-requires
     enum-told
-    enum-told-2
     same-length
     returns
-    add-i
-    loop-less
-    loop-again
+    enum-told-2
     same-length-2
-    returns-2)
+    returns-2
+    enum-known-end
+    mul-work-tanks
+    shared-slice-read-work-tanks
+    work-tanks-requires
+    enum-told-3
+    enum-told-4
+    same-length-3
+    returns-3
+    extra-at-requires
+    add-x
+    add-from
+    loop-less
+    loop-again)

@@ -1,182 +1,123 @@
 -- `work_step` meets its contract.
-use Prim.Native.Nat.{_+_, _≤_, _<_, _-_}
-use mathlib.Core.Path.{_≡_, refl, ap, _∙_}
+use Prim.Native.Nat.{ℕ, _+_, _-_, _*_, _≤_}
+use mathlib.Core.List.{List, [], _∷_}
+use mathlib.Core.Logic.{⊎-elim}
+use mathlib.Core.Path.{_≡_, refl}
 use borrow.Author.Needs.{needs}
 use native.Mathlib.Omega.{arith}
-use lib.ListN.{length, getD}
-use Rattle.sizes.specs.Sizes.{mostElements}
-use Rattle.units.specs.Units.{S}
-use Rattle.elements.specs.declared.Element.{Element}
-use Rattle.elements.specs.Elements.{elementAt}
+use denote.Enum.Declared.{tagOf}
+use types.Run.{OneOf}
+use lib.ListN.{length}
 use Rattle.table.specs.InUse.{tableIn}
-use Rattle.table.specs.Decoded.{CountsHeld}
-use Rattle.table.proofs.HeldLaws.{counts-in-use, element-there, element-bounds}
-use Rattle.record.specs.Records.{inputObservation}
-use Rattle.record.specs.GaugeOrder.{gaugesBefore}
-use Rattle.record.proofs.RecordLaws.{kind-read}
-use Rattle.record.proofs.GaugeOrderLaws.{gauges-none, gauges-more, gauges-most, here-used, observation-found}
-use Rattle.network.specs.Step.{weightOf}
-use Rattle.element_weights.proofs.WeightsLaws.{weight-held}
-use Rattle.answer_space.specs.Places.{mostSumBefore}
-use Rattle.one_lead.specs.Worked.{stepLead, LeadReady}
-use Rattle.one_lead.proofs.LeadLaws.{new-ready}
-use Rattle.lead_walk.proofs.LeadsLaws.{work-step-refused, work-step-done}
-use Rattle.network_step.specs.declared.StepInput.{StepInput}
-use Rattle.network_step.specs.Inputs.{inputOf, stepInput}
-use Rattle.network_step.proofs.StepLaws.{PassedBefore, passed-none, passed-more, passed-few, rain-most, rain-room, release-room, Stepping, stepping-begin, old-outflow-ready, old-added, step-ready, stepping-again, stepping-refused, stepping-done}
+use Rattle.table.specs.Bounds.{CountedTable}
+use Rattle.table.proofs.HeldLaws.{counts-in-use}
+use Rattle.state.specs.States.{State}
+use Rattle.network_step.specs.declared.Reached.{Reached}
+use Rattle.network_step.specs.declared.RunEnd.{RunEnd}
+use Rattle.network_step.specs.declared.RunEnd.the-variants.{Done, Above, Tanks}
+use Rattle.network_step.specs.Held.{placeCount, ReachedIn, TanksMet, TanksTurn, RunEnded, isDone, StepWorked}
+use Rattle.network_step.proofs.RunEnd as run-end
+use Rattle.network_step.proofs.StepLaws.{begun-reached, stepping-done, step-refused, run-met, past-element, past-reached, tank-most, gauges-few}
 use Rattle.network_step.proofs.work_step.Statement.{statement}
 use Rattle.network_step.proofs.work_step.Tie as tie
 
 abbrev Inv-loop : tie.InvT-loop
-Inv-loop table basins weights bytes observed state space₀ counts n passed₀ g₀ i₀ space passed g i =
-    (i ≤ n)
-    × ((length space ≡ length space₀)
-    × (PassedBefore (tableIn table) i passed × ((g ≡ gaugesBefore (tableIn table) i) × Stepping table bytes state i space)))
+Inv-loop table basins weights bytes observed state space₀ n m from₀ space from =
+    (length space ≡ length space₀) × ReachedIn (tableIn table) bytes state from space
 
 abbrev μ-loop : tie.MeasureT-loop
-μ-loop table basins weights bytes observed state space₀ counts n passed₀ g₀ i₀ space passed g i = n - i
+μ-loop table basins weights bytes observed state space₀ n m from₀ space from = n - from .element
 
-abbrev start : tie.In-loop Inv-loop μ-loop → tie.Start Inv-loop μ-loop
+abbrev start : tie.At-loop Inv-loop μ-loop → tie.Start Inv-loop μ-loop
 start c = c .before .before .before .before .before .before .before .before
 
 -- the header's counts
-header : (c : tie.In-loop Inv-loop μ-loop) → CountsHeld (c .before .before .counts-of .result) (tableIn (start c .args .table .now))
-header c = counts-in-use _ (c .before .before .counts-of .ensures)
+module _ (c : tie.At-loop Inv-loop μ-loop) where
+  header : CountedTable (start c .args .table .now) (c .before .before .counts-of .result .elements) (c .before .before .counts-of .result .gauges)
+  header =
+      let h = counts-in-use _ (c .before .before .counts-of .ensures) in
+      record { table = start c .pre .0 .accepts; elements = h .elements; gauges = h .gauges }
 
--- an element of the loop is in use
-module _ (c : tie.In-loop Inv-loop μ-loop) where
-  used : c .before .loop .i < tableIn (start c .args .table .now) .elements
-  used = omega (arith, c .loop-test .taken, header c .elements)
+  space-room : 4 * (placeCount (tableIn (start c .args .table .now)) + 1) ≤ length (c .loop .space)
+  space-room = omega (arith, start c .pre .1 .room, c .loop .inv .0)
 
-  within : c .before .loop .i < mostElements
-  within = omega (arith, used, start c .pre .0 .accepts .bounds .elementsMost)
-
-  counted : PassedBefore (tableIn (start c .args .table .now)) (c .before .loop .i) (c .before .loop .passed)
-  counted = c .before .loop .inv .1 .1 .0
-
--- what its gauge observed
-seen :
-    (c : tie.After-observation-here Inv-loop μ-loop)
-    → c .observation-here .result
-    ≡ inputObservation (tableIn (start (c .before .before) .args .table .now)) (start (c .before .before) .args .bytes .now) (c .before .before .before .loop .i) (tableIn (start (c .before .before) .args .table .now) .gauges)
-seen c =
-    let l = c .before .before in
-    let p = start l .pre .0 in
-    c .observation-here .ensures
-    ∙ observation-found _ (p .accepts .bounds) _ (p .held) _ (l .before .loop .inv .1 .1 .1 .0) (c .before .gauge-here .ensures .0)
-
--- its weight
-weighed :
-    (c : tie.In-loop Inv-loop μ-loop)
-    → let w = getD (start c .args .weights .now) (c .before .loop .i) 0 in
-    (w ≡ weightOf (tableIn (start c .args .table .now)) (c .before .loop .i)) × (w ≤ S)
-weighed c = weight-held (start c .pre .0 .weights) _ (used c)
-
--- its turn, from later points
-abbrev old-point : tie.After-step-input Inv-loop μ-loop → tie.After-add-old-outflow Inv-loop μ-loop
-old-point c = c .before .before .before .before
-
-abbrev observation-point : tie.After-step-input Inv-loop μ-loop → tie.After-observation-here Inv-loop μ-loop
-observation-point c = old-point c .before .before
-
-abbrev turn : tie.After-step-input Inv-loop μ-loop → tie.In-loop Inv-loop μ-loop
-turn c = observation-point c .before .before
-
-abbrev input-point : tie.After-work-step-arg Inv-loop μ-loop → tie.After-step-input Inv-loop μ-loop
-input-point c = c .before .before .before .before
-
--- the element that it is worked out of, as it stands in the table
-module _ (c : tie.After-step-input Inv-loop μ-loop) where
-  abbrev standing : Element
-  standing = elementAt (start (turn c) .args .table .now) (turn c .before .loop .i)
-
-  element-taken : c .step-input .result .input .element ≡ standing
-  unfolding stepInput inputOf
-  element-taken = ap (λ (x : StepInput). x .input .element) (c .step-input .ensures)
-
-  lead-zero : c .step-input .result .input .«first_lead» ≡ 0
-  unfolding stepInput inputOf
-  lead-zero = ap (λ (x : StepInput). x .input .«first_lead») (c .step-input .ensures)
-
-  passed-on : PassedBefore (tableIn (start (turn c) .args .table .now)) (turn c .before .loop .i + 1) (c .step-input .result .passed)
-  unfolding stepInput
-  passed-on =
-      passed-more _ _ (counted (turn c)) (kind-read _ _ (used (turn c)) refl) (ap (λ (x : StepInput). x .passed) (c .step-input .ensures))
-
--- it is ready to be worked out, from its old figures on
-ready :
-    (c : tie.After-work-step-arg Inv-loop μ-loop)
-    → let i = input-point c in
-    let l = turn i in
-    LeadReady mostSumBefore (i .step-input .result .input) (stepLead (l .before .loop .i + 1) (i .step-input .result .input .element .down))
-    (c .before .figures-of .result) (l .before .loop .space)
-ready c =
-    let i = input-point c in
-    let l = turn i in
-    let p = start l .pre in
-    let w = weighed l in
-    let inv = l .before .loop .inv .1 in
-    step-ready _ _ _ _ (used l) (w .0) (p .0 .counted) (counted l) (seen (observation-point i)) _ (p .0 .accepts) (p .0 .kept) (p .0 .state) (w .1)
-    (ap (λ (x : StepInput). x .input) (i .step-input .ensures)) (c .before .figures-of .ensures) (inv .1 .1 .1)
-    (omega (arith, p .1 .room, inv .0))
+-- a run that ends before no element of tanks
+ended :
+    (table bytes : List ℕ) (s : State) (from : Reached) (space : List ℕ) (end : RunEnd)
+    → OneOf (0 ∷ 1 ∷ []) (tagOf run-end.the-type end)
+    → RunEnded end (tableIn table) bytes s from space
+    → StepWorked (isDone end) space (tableIn table) bytes s
+unfolding RunEnded isDone
+ended table bytes s from space Done k h = stepping-done table bytes s space h
+ended table bytes s from space Above k h = step-refused table bytes s h
+ended table bytes s from space (Tanks met) k h = absurd (⊎-elim (λ e. omega (arith, e)) (λ e. omega (arith, e)) k)
 
 counts-of-requires : tie.Need-counts-of-requires Inv-loop μ-loop
 counts-of-requires c κs = search needs
 
+begun-requires : tie.Need-begun-requires Inv-loop μ-loop
+begun-requires c κs = search needs
+
 loop-holds : tie.Need-loop-holds Inv-loop μ-loop
 loop-holds c =
-    let s = c .before .before .before .before .before .before in
-    (omega arith, (refl, (passed-none _, (gauges-none _, stepping-begin _ _ _ _ (s .pre .1 .none)))))
+    let n = c .before in
+    let s = n .before .before .before .before .before .before in
+    (refl, begun-reached _ _ _ _ (s .pre .1 .none) (counts-in-use _ (n .counts-of .ensures) .elements) (c .begun .ensures))
 
-gauge-here-requires : tie.Need-gauge-here-requires Inv-loop μ-loop
-gauge-here-requires c κs =
-    let h = header c in (record { table = start c .pre .0 .accepts; elements = h .elements; gauges = h .gauges }, c .loop-test .taken)
-
-observation-here-requires : tie.Need-observation-here-requires Inv-loop μ-loop
-observation-here-requires c κs =
+work-run-requires : tie.Need-work-run-requires Inv-loop μ-loop
+work-run-requires c κs =
     let l = c .before in
-    λ e. omega (arith, here-used _ _ _ (c .gauge-here .ensures .0) e, start l .pre .0 .room)
+    record { ready = start l .pre .0; counts = header l; room = space-room l; reached = l .loop .inv .1 }
 
-add-old-outflow-requires : tie.Need-add-old-outflow-requires Inv-loop μ-loop
-add-old-outflow-requires c κs =
-    let l = c .before .before .before in
-    let p = start l .pre in
-    let inv = l .before .loop .inv .1 in
-    old-outflow-ready _ _ _ _ _ (p .0 .accepts) (p .0 .state) (used l) (inv .1 .1 .1) (omega (arith, p .1 .room, inv .0))
+enum-known-end : tie.Need-enum-known-end Inv-loop μ-loop
+enum-known-end c = search needs
 
-mul-step-input : tie.Need-mul-step-input Inv-loop μ-loop
-mul-step-input c = omega (arith, within (c .before .before .before .before .before .before))
+run-done-requires : tie.Need-run-done-requires Inv-loop μ-loop
+run-done-requires c κs = search needs
 
-shared-slice-read-step-input : tie.Need-shared-slice-read-step-input Inv-loop μ-loop
-shared-slice-read-step-input c =
-    let l = c .before .before .before .before .before .before .before in omega (arith, used l, start l .pre .0 .weights .room)
+same-length : tie.Need-same-length Inv-loop μ-loop
+same-length c = let w = c .before .before .before .before in omega (arith, w .work-run .kept .1 .1 .1 .1 .1 .1 .1 .1 .1 .0, w .before .before .loop .inv .0)
 
-step-input-requires : tie.Need-step-input-requires Inv-loop μ-loop
-step-input-requires c κs =
-    let l = c .before .before .before .before .before .before .before in
-    let p = start l .pre .0 in
-    let a = p .accepts in
-    let e = element-bounds _ a (used l) in
-    record {
-      there = element-there _ a (used l);
-      rain = rain-room _ _ (start l .args .state .now) a (p .kept) _ (used l) (counted l .basins);
-      rainMost = rain-most _ _ (start l .args .state .now) a (p .kept) _ (used l) (counted l .basins);
-      release = release-room _ _ (start l .args .state .now) a (p .kept) _ (used l) (p .counted) (counted l .dams);
-      few = passed-few _ _ (counted l);
-      area = e .area;
-      runoff = e .runoff;
-    }
+returns : tie.Need-returns Inv-loop μ-loop
+returns c =
+    let k = c .before in
+    let w = k .before .before .before in
+    rw (c .run-done .ensures) (ended _ _ _ _ _ _ (k .match .keys2) (w .work-run .ensures))
 
-figures-of-requires : tie.Need-figures-of-requires Inv-loop μ-loop
-figures-of-requires c κs = within (turn (c .before .before))
+-- the element of tanks that a run has come to
+abbrev run-point : tie.After-known-told Inv-loop μ-loop → tie.After-work-run Inv-loop μ-loop
+run-point c = c .before .before .before .before .before
 
-add-work-step : tie.Need-add-work-step Inv-loop μ-loop
-add-work-step c = omega (arith, within (turn (c .before .before .before)))
+module _ (c : tie.After-known-told Inv-loop μ-loop) where
+  abbrev loop-point : tie.At-loop Inv-loop μ-loop
+  loop-point = run-point c .before .before
 
-work-step-requires : tie.Need-work-step-requires Inv-loop μ-loop
-work-step-requires c κs =
-    let i = input-point c in
-    new-ready _ _ _ _ (ready c) _ refl _ (old-added _ _ _ _ (element-taken i) (c .before .figures-of .ensures) (old-point i .add-old-outflow .ensures))
+  met-there :
+      TanksMet (tableIn (start loop-point .args .table .now)) (start loop-point .args .bytes .now) (start loop-point .args .state .now)
+      (loop-point .loop .from) (c .before .end .given .0 .0) (run-point c .work-run .last .1 .1 .1 .1 .1 .1 .1 .1 .1 .0)
+  met-there = run-met _ _ _ (c .before .end .given .1) (run-point c .work-run .ensures)
+
+  turn :
+      TanksTurn (start loop-point .args .table .now) (loop-point .before .before .counts-of .result .elements)
+      (loop-point .before .before .counts-of .result .gauges) (c .before .end .given .0 .0) (start loop-point .args .weights .now)
+      (start loop-point .args .observed .now) (start loop-point .args .state .now) (run-point c .work-run .last .1 .1 .1 .1 .1 .1 .1 .1 .1 .0)
+      (start loop-point .args .basins) (start loop-point .args .bytes .now)
+  turn =
+      record {
+        run = record {
+          ready = start loop-point .pre .0;
+          counts = header loop-point;
+          room = omega (arith, space-room loop-point, run-point c .work-run .kept .1 .1 .1 .1 .1 .1 .1 .1 .1 .0);
+          reached = met-there .reached;
+        };
+        used = met-there .used;
+        kind = met-there .kind;
+      }
+
+work-tanks-requires : tie.Need-work-tanks-requires Inv-loop μ-loop
+work-tanks-requires c κs =
+    let k = c .before in
+    record { basins = start (loop-point k) .args .basins; bytes = start (loop-point k) .args .bytes .now; turn = turn k }
 
 enum-told : tie.Need-enum-told Inv-loop μ-loop
 enum-told c = search needs
@@ -184,65 +125,60 @@ enum-told c = search needs
 enum-told-2 : tie.Need-enum-told-2 Inv-loop μ-loop
 enum-told-2 c = search needs
 
-same-length : tie.Need-same-length Inv-loop μ-loop
-same-length c =
-    let e = c .before .before .before .before in
-    omega (arith, e .work-step .kept .1 .1 .1 .1 .0, turn (input-point (e .before)) .before .loop .inv .1 .0)
-
-returns : tie.Need-returns Inv-loop μ-loop
-returns c =
-    let e = c .before .before .before .before in
-    let i = input-point (e .before) in
-    let l = turn i in
-    stepping-refused _ _ _ _ (used l) (weighed l .0) (start l .pre .0 .counted) (counted l) (seen (observation-point i)) _ (l .before .loop .inv .1 .1 .1 .1)
-    _ (ap (λ (x : StepInput). x .input) (i .step-input .ensures)) _ (e .before .before .figures-of .ensures)
-    (work-step-refused _ _ _ _ _ _ _ (lead-zero i) (ready (e .before)) (old-added _ _ _ _ (element-taken i) (e .before .before .figures-of .ensures) (old-point i .add-old-outflow .ensures)) _ (e .work-step .ensures) (c .enum-told2 .given .1))
-
-abbrev worked : tie.After-passed Inv-loop μ-loop → tie.After-work-step Inv-loop μ-loop
-worked c = c .before .before .before .before .before
-
-add-g : tie.Need-add-g Inv-loop μ-loop
-add-g c =
-    let l = turn (input-point (worked c .before)) in
-    let g = observation-point (input-point (worked c .before)) .before in
-    omega (arith, gauges-most (tableIn (start l .args .table .now)) (l .before .loop .i), l .before .loop .inv .1 .1 .1 .0, start l .pre .0 .accepts .bounds .gaugesMost, g .gauge-here .ensures .1)
-
-add-i : tie.Need-add-i Inv-loop μ-loop
-add-i c = omega (arith, within (turn (input-point (worked c .before))))
-
-loop-less : tie.Need-loop-less Inv-loop μ-loop
-loop-less c = omega (arith, turn (input-point (worked c .before)) .loop-test .taken)
-
-loop-again : tie.Need-loop-again Inv-loop μ-loop
-loop-again c =
-    let e = worked c in
-    let i = input-point (e .before) in
-    let l = turn i in
-    let inv = l .before .loop .inv .1 in
-    let p = start l .pre .0 in
-    let g = observation-point i .before in (
-      omega (arith, l .loop-test .taken),
-      (
-        omega (arith, e .work-step .kept .1 .1 .1 .1 .0, inv .0),
-        (
-          passed-on i,
-          (
-            gauges-more _ _ (inv .1 .1 .0) (g .gauge-here .ensures .0),
-            stepping-again _ _ _ _ (used l) (weighed l .0) (p .counted) (counted l) (seen (observation-point i)) _ (inv .1 .1 .1)
-                _ (ap (λ (x : StepInput). x .input) (i .step-input .ensures)) _ (e .before .before .figures-of .ensures) _ (ap (λ (x : Element). x .down) (element-taken i))
-                (work-step-done _ _ _ _ _ _ _ (lead-zero i) (ready (e .before)) (old-added _ _ _ _ (element-taken i) (e .before .before .figures-of .ensures) (old-point i .add-old-outflow .ensures)) _ (e .work-step .ensures) (c .before .enum-told .given .1))
-                (element-bounds _ (p .accepts) (used l) .later),
-          ),
-        ),
-      ),
-    )
-
 same-length-2 : tie.Need-same-length-2 Inv-loop μ-loop
-same-length-2 c = search needs
+same-length-2 c =
+    let w = c .before .before .before .before in
+    let r = run-point (w .before .before) in
+    omega (arith, w .work-tanks .kept .1 .1 .1 .1 .1 .1 .1 .0, r .work-run .kept .1 .1 .1 .1 .1 .1 .1 .1 .1 .0, r .before .before .loop .inv .0)
 
 returns-2 : tie.Need-returns-2 Inv-loop μ-loop
 returns-2 c =
-    stepping-done _ _ _ _ (c .before .loop .inv .1 .1 .1 .1) (omega (arith, counts-in-use _ (c .before .before .counts-of .ensures) .elements))
+    let w = c .before .before .before .before in
+    step-refused _ _ _ (w .work-tanks .ensures .by _ _ (turn (w .before .before)) .passes _ (c .enum-told2 .given .1))
+
+-- it is worked out
+abbrev tanks-point : tie.After-enum-told Inv-loop μ-loop → tie.After-work-tanks Inv-loop μ-loop
+tanks-point c = c .before .before .before .before
+
+abbrev met-point : tie.After-enum-told Inv-loop μ-loop → tie.After-known-told Inv-loop μ-loop
+met-point c = tanks-point c .before .before
+
+past-tanks-requires : tie.Need-past-tanks-requires Inv-loop μ-loop
+past-tanks-requires c κs =
+    let k = met-point c in
+    let q = turn k in
+    let b = q .run .ready .accepts .bounds in
+    record {
+      counts = q .run .counts;
+      used = q .used;
+      kind = q .kind;
+      tankFew = tank-most _ _ _ b (q .run .reached);
+      gaugesFew = gauges-few _ _ _ b (q .run .reached);
+    }
+
+reached-now :
+    (c : tie.After-past-tanks Inv-loop μ-loop)
+    → let s = start (loop-point (met-point (c .before))) in
+    ReachedIn (tableIn (s .args .table .now)) (s .args .bytes .now) (s .args .state .now) (c .past-tanks .result)
+    (tanks-point (c .before) .work-tanks .last .1 .1 .1 .1 .1 .1 .1 .0)
+reached-now c =
+    let told = c .before in
+    let q = turn (met-point told) in
+    past-reached _ _ _ (q .used) (q .kind) (q .run .reached) (c .past-tanks .ensures)
+    (tanks-point told .work-tanks .ensures .by _ _ q .done (told .enum-told .given .1))
+
+loop-less : tie.Need-loop-less Inv-loop μ-loop
+loop-less c =
+    let k = met-point (c .before) in
+    omega (arith, past-element _ _ (c .past-tanks .ensures), met-there k .later, met-there k .used, header (loop-point k) .elements)
+
+loop-again : tie.Need-loop-again Inv-loop μ-loop
+loop-again c =
+    let w = tanks-point (c .before) in
+    let r = run-point (w .before .before) in (
+      omega (arith, w .work-tanks .kept .1 .1 .1 .1 .1 .1 .1 .0, r .work-run .kept .1 .1 .1 .1 .1 .1 .1 .1 .1 .0, r .before .before .loop .inv .0),
+      reached-now c,
+    )
 
 pub work-step-spec : {M : Type 1} → statement M
 work-step-spec =
@@ -251,23 +187,18 @@ work-step-spec =
     Inv-loop
     μ-loop
     counts-of-requires
+    begun-requires
     loop-holds
-    gauge-here-requires
-    observation-here-requires
-    add-old-outflow-requires
-    mul-step-input
-    shared-slice-read-step-input
-    step-input-requires
-    figures-of-requires
-    add-work-step
-    work-step-requires
-    enum-told
-    enum-told-2
+    work-run-requires
+    enum-known-end
+    run-done-requires
     same-length
     returns
-    add-g
-    add-i
-    loop-less
-    loop-again
+    work-tanks-requires
+    enum-told
+    enum-told-2
     same-length-2
-    returns-2)
+    returns-2
+    past-tanks-requires
+    loop-less
+    loop-again)

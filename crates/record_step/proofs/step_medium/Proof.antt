@@ -1,7 +1,7 @@
 -- `step_medium` meets its contract.
 use borrow.Author.Needs.{needs}
 use native.Mathlib.Omega.{arith}
-use Rattle.sizes.specs.Sizes.{mostElements, observedNumbers, stepSpace}
+use Rattle.sizes.specs.Sizes.{mostElements, observedNumbers, mediumStepSpace}
 use Rattle.record_step.proofs.StepLaws.{spaces-ready}
 use Rattle.record_step.proofs.step_medium.Statement.{statement}
 use Rattle.record_step.proofs.step_medium.Tie as tie
@@ -21,13 +21,15 @@ slice-aggregate-work-record-3 c = search needs
 work-record-requires : tie.Need-work-record-requires
 work-record-requires c κs =
     let g = c .before .before .before .before .before .before .pre in
-    spaces-ready g mostElements observedNumbers stepSpace (omega (arith, g .elements, g .accepts .bounds .elementsMost)) (omega (arith, g .accepts .bounds .gaugesMost)) (omega (arith, g .elements, g .accepts .bounds .elementsMost))
+    let b = g .0 .accepts .bounds in
+    spaces-ready (g .0) mostElements observedNumbers mediumStepSpace (omega (arith, g .0 .elements, b .elementsMost)) (omega (arith, b .gaugesMost))
+    (omega (arith, g .1))
 
-slice-aggregate-write-accepted : tie.Need-slice-aggregate-write-accepted
-slice-aggregate-write-accepted c = search needs
+slice-aggregate-write-tanked : tie.Need-slice-aggregate-write-tanked
+slice-aggregate-write-tanked c = search needs
 
-write-accepted-requires : tie.Need-write-accepted-requires
-write-accepted-requires c κs = search needs
+write-tanked-requires : tie.Need-write-tanked-requires
+write-tanked-requires c κs = search needs
 
 returns : tie.Need-returns
 returns c = search needs
@@ -41,6 +43,6 @@ step-medium-spec =
     slice-aggregate-work-record-2
     slice-aggregate-work-record-3
     work-record-requires
-    slice-aggregate-write-accepted
-    write-accepted-requires
+    slice-aggregate-write-tanked
+    write-tanked-requires
     returns)

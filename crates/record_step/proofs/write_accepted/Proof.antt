@@ -1,10 +1,10 @@
 -- `write_accepted` meets its contract.
 use borrow.Author.Needs.{needs}
-use mathlib.Core.Path.{_≡_, ap}
+use mathlib.Core.Path.{_≡_, refl, ap}
 use Prim.Native.Nat.{ℕ, _*_}
-use Rattle.state.proofs.BoundsLaws.{state-bounds}
 use Rattle.table.specs.InUse.{tableIn}
-use Rattle.record_step.proofs.StepLaws.{written-accepted, written-refused}
+use Rattle.next_state.proofs.WriteLaws.{no-tanks}
+use Rattle.record_step.proofs.StepLaws.{written-refused, elements-ready, both-written}
 use Rattle.record_step.proofs.write_accepted.Statement.{statement}
 use Rattle.record_step.proofs.write_accepted.Tie as tie
 
@@ -25,21 +25,13 @@ write-state-requires : tie.Need-write-state-requires
 write-state-requires c κs =
     let known = c .before in
     let p = known .before .before .before .before .before .pre in
-    let accepted = known .enum-told .given .1 in
-    record {
-      fits = p .accepts;
-      elements = p .elements;
-      kept = p .worked .kept accepted;
-      room = p .room;
-      state = state-bounds _ _ (p .fits);
-      held = p .worked .held accepted;
-    }
+    elements-ready p (known .enum-told .given .1) (no-tanks _ 0 _ _ refl)
 
 returns-2 : tie.Need-returns-2
 returns-2 c =
     let known = c .before .before in
-    let s = known .before .before .before .before .before in
-    written-accepted _ _ _ (s .pre .worked) (all s) (known .enum-told .given .1) (c .write-state .ensures)
+    let p = known .before .before .before .before .before .pre in
+    both-written p (known .enum-told .given .1) (no-tanks _ 0 _ _ refl) (c .write-state .ensures)
 
 pub write-accepted-spec : {M : Type 1} → statement M
 write-accepted-spec =

@@ -3,7 +3,7 @@ use borrow.Author.Needs.{needs}
 use Prim.Native.Nat.{_+_, _*_, _≤_}
 use native.Mathlib.Omega.{arith}
 use lib.ListN.{length}
-use Rattle.sizes.specs.Sizes.{mostElements, observedNumbers, stepSpace}
+use Rattle.sizes.specs.Sizes.{mostElements, observedNumbers, mediumStepSpace}
 use Rattle.record_step.proofs.StepLaws.{spaces-ready}
 use Rattle.trial.proofs.TrialLaws.{answer-ready, trial-held}
 use Rattle.trial.proofs.trial_medium.Statement.{statement}
@@ -13,7 +13,7 @@ abbrev start : tie.After-work-record → tie.Start
 start w = w .before .before .before .before .before .before .before
 
 room : (w : tie.After-work-record) → 4 * (start w .args .n + 1) ≤ length (w .work-record .last .1 .1 .1 .1 .1 .1 .1 .1 .0)
-room w = omega (arith, w .work-record .kept, start w .pre .elements, start w .pre .accepts .bounds .elementsMost)
+room w = omega (arith, w .work-record .kept, start w .pre .1)
 
 slice-aggregate-work-record : tie.Need-slice-aggregate-work-record
 slice-aggregate-work-record c = search needs
@@ -27,13 +27,15 @@ slice-aggregate-work-record-3 c = search needs
 work-record-requires : tie.Need-work-record-requires
 work-record-requires c κs =
     let g = c .before .before .before .before .before .before .pre in
-    spaces-ready g mostElements observedNumbers stepSpace (omega (arith, g .elements, g .accepts .bounds .elementsMost)) (omega (arith, g .accepts .bounds .gaugesMost)) (omega (arith, g .elements, g .accepts .bounds .elementsMost))
+    let b = g .0 .accepts .bounds in
+    spaces-ready (g .0) mostElements observedNumbers mediumStepSpace (omega (arith, g .0 .elements, b .elementsMost)) (omega (arith, b .gaugesMost))
+    (omega (arith, g .1))
 
 slice-aggregate-answer-trial : tie.Need-slice-aggregate-answer-trial
 slice-aggregate-answer-trial c = search needs
 
 answer-trial-requires : tie.Need-answer-trial-requires
-answer-trial-requires c κs = let w = c .before .before .before .before .before in answer-ready _ _ _ (start w .pre) (w .work-record .ensures) (room w)
+answer-trial-requires c κs = let w = c .before .before .before .before .before in answer-ready _ _ _ (start w .pre .0) (w .work-record .ensures) (room w)
 
 same-length : tie.Need-same-length
 same-length c = search needs
@@ -42,7 +44,7 @@ returns : tie.Need-returns
 returns c =
     let a = c .before .before in
     let w = a .before .before .before .before .before .before in
-    trial-held _ _ _ (start w .pre) _ _ _ (w .work-record .ensures) (room w) (a .answer-trial .ensures)
+    trial-held _ _ _ (start w .pre .0) _ _ _ (w .work-record .ensures) (room w) (a .answer-trial .ensures)
 
 pub trial-medium-spec : {M : Type 1} → statement M
 trial-medium-spec =

@@ -27,7 +27,7 @@ slice-aggregate-work-record-3 c = search needs
 work-record-requires : tie.Need-work-record-requires
 work-record-requires c κs =
     let g = c .before .before .before .before .before .before .pre in
-    spaces-ready (g .0) smallElements smallObservedNumbers smallStepSpace (g .1) (omega (arith, few-gauges (g .0), g .1)) (omega (arith, g .1))
+    spaces-ready (g .0) smallElements smallObservedNumbers smallStepSpace (omega (arith, g .1)) (omega (arith, few-gauges (g .0), g .1)) (omega (arith, g .1))
 
 slice-aggregate-answer-trial : tie.Need-slice-aggregate-answer-trial
 slice-aggregate-answer-trial c = search needs
