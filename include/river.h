@@ -5,7 +5,7 @@
  *
  * Every call checks all that it is given and answers 0 where it is accepted, else the first number for no, in checking order, that applies.
  * A refused call leaves the state and the lent numbers as they were. No call keeps anything or allocates memory, so any number of rivers
- * and threads can call at a time; a call takes up to 32 KB of its thread's stack.
+ * and threads can call at a time; a call takes up to 72 KB of its thread's stack.
  * A pointer must be valid for as many bytes or numbers as the length after it says, must not be null (also where the length is 0), and
  * what a call writes (the state of a start or a step, the numbers of a forecast or a trial) must not overlap anything else that it is given.
  *
@@ -23,13 +23,14 @@ extern "C" {
 
 /* The version of this header. At its start a host compares it with the library's own, river_version(), and makes no other call where they
  * differ: an object compiled with an old header would hand a new library its memory in another shape. A stored state belongs to the version
- * that moved it, or to a later one that this header names. Version 5 has the layouts of 4, but that river_rating has a noise (M-105), and
- * moves a state as version 4 does: a state that version 4 has moved may be given to it. One that version 3 has moved may not (M-103): start
- * anew and send the records again. */
-#define RIVER_VERSION 5
+ * that moved it, or to a later one that this header names. Version 6 has reaches made of tanks (M-107): a state has 1,000 places where that
+ * of version 5 has 64, and river_plan tells tanks and places. It moves a state of a table that version 5 accepts as versions 4 and 5 do: the
+ * 450 numbers of a state that one of these has moved may be given to it as the first 450 of a state, whatever the others hold. Those that
+ * version 3 has moved may not (M-103): start anew and send the records again. */
+#define RIVER_VERSION 6
 
-enum { RIVER_MOST_PLACES = 64, RIVER_MOST_LEADS = 12, RIVER_MOST_GAUGES = 16 };
-enum { RIVER_MOST_NUMBERS = 4 * RIVER_MOST_PLACES * (RIVER_MOST_LEADS + 1) };
+enum { RIVER_MOST_ELEMENTS = 64, RIVER_MOST_PLACES = 1000, RIVER_MOST_LEADS = 12, RIVER_MOST_GAUGES = 16 };
+enum { RIVER_MOST_NUMBERS = 4 * RIVER_MOST_ELEMENTS * (RIVER_MOST_LEADS + 1) };
 
 /* The numbers for no of documents 01 and 02, in checking order. C is 4,000,000,000, the ceiling of every figure. */
 enum {
@@ -41,7 +42,7 @@ enum {
     RIVER_REFUSED_ELEMENT_FIELD = 5,    /* an element's kind or any field but down is out of range */
     RIVER_REFUSED_ELEMENT_DOWN = 6,     /* a down is neither 0 nor a later element, or it names a basin */
     RIVER_REFUSED_GAUGE_FIELD = 7,      /* a gauge field is out of range or out of order, or the gauge stands on a dam */
-    RIVER_REFUSED_STATE_RANGE = 8,      /* the state has another N, a step count above 10,000, a figure above C or a rain above 3,000 */
+    RIVER_REFUSED_STATE_RANGE = 8,      /* the state has another N, a step count above 10,000, a figure (of a tank too) above C or a rain above 3,000 */
     RIVER_REFUSED_STEP_LIMIT = 9,       /* the state's step count is 10,000 already */
     RIVER_REFUSED_RECORD_LENGTH = 10,   /* the record's bytes, its length field or both do not fit the table */
     RIVER_REFUSED_RECORD_VERSION = 11,  /* the record's version is neither 1 nor 2 */
@@ -60,14 +61,16 @@ typedef struct {
     uint64_t discharge, discharge_margin, variance, variance_margin;
 } river_figures;
 
-/* One element: its figures and, of a basin, its last three rains, the latest first. */
+/* One element, or one tank above the last of an element of tanks: its figures and, of a basin, its last three rains, the latest first. */
 typedef struct {
     river_figures figures;
     uint64_t rain[3];
 } river_place;
 
-/* A river's state, 450 numbers: N, accepted steps, and a place for each element; place[0] is element 1. Before a start it may hold
- * anything. Places beyond the first N and the rains of reaches and dams are neither read nor changed.
+/* A river's state, 7,002 numbers: N, accepted steps, and a place for each element; place[0] is element 1. Of an element of k tanks this is the
+ * place of the last tank, whose figures are the element's; its k - 1 others stand after the N elements, those of all such elements in
+ * element order, the uppermost of each first: from place[N] on. Before a start the state may hold anything. Places beyond those in use,
+ * N + tanks of river_plan, and all rains but those of basins are neither read nor changed.
  * A state may be stored and given back later with the same table, to the same RIVER_VERSION or one that takes it: the run then goes on, also
  * in another process after a power cut. */
 typedef struct {
@@ -76,19 +79,20 @@ typedef struct {
 } river_state;
 
 #if defined(__cplusplus) && __cplusplus >= 201103L
-static_assert(sizeof(river_state) == 8 * (2 + 7 * RIVER_MOST_PLACES), "a state is 450 numbers of 8 bytes");
+static_assert(sizeof(river_state) == 8 * (2 + 7 * RIVER_MOST_PLACES), "a state is 7,002 numbers of 8 bytes");
 #elif defined(__STDC_VERSION__) && __STDC_VERSION__ >= 201112L
-_Static_assert(sizeof(river_state) == 8 * (2 + 7 * RIVER_MOST_PLACES), "a state is 450 numbers of 8 bytes");
+_Static_assert(sizeof(river_state) == 8 * (2 + 7 * RIVER_MOST_PLACES), "a state is 7,002 numbers of 8 bytes");
 #else
-typedef char river_state_is_450_numbers[sizeof(river_state) == 8 * (2 + 7 * RIVER_MOST_PLACES) ? 1 : -1];
+typedef char river_state_is_7002_numbers[sizeof(river_state) == 8 * (2 + 7 * RIVER_MOST_PLACES) ? 1 : -1];
 #endif
 
-/* What a table asks the host to lend: its counts, the bytes of a step record of version 1, the numbers of a forecast, and T, the minutes of a
+/* What a table asks the host to lend: its counts, tanks being those above the last of their elements and places the elements and these, the
+ * places of a state that are in use; the bytes of a step record of version 1, the numbers of a forecast, and T, the minutes of a
  * step; all 0 but the refusal where the table is refused. A record of version 2, which has the bits of a 32-bit float in metres for each
  * gauge where version 1 has a stage in millimetres, has record_bytes + 2 * gauges bytes; records of both versions may follow one another. */
 typedef struct {
     uint64_t refusal;
-    size_t elements, leads, gauges, basins, dams, record_bytes, forecast_numbers;
+    size_t elements, leads, gauges, basins, dams, tanks, places, record_bytes, forecast_numbers;
     uint64_t step_minutes;
 } river_plan;
 

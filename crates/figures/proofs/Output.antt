@@ -21,7 +21,7 @@ use Rattle.element_step.specs.ElementStep.{released, ownOf, correctedBy, moved,
 use Rattle.element_step.specs.Rains.{shiftedRains}
 use Rattle.elements.specs.Elements.{elementAt}
 use Rattle.elements.specs.Kinds.{byKind}
-use Rattle.elements.specs.Rules.{lagFits, basinFits, reachFits, damFits, kindFits, elementFits, downFits}
+use Rattle.elements.specs.Rules.{lagFits, basinFits, reachFits, damFits, tanksFit, kindFits, elementFits, downFits}
 use Rattle.entries.specs.Entries.{startAnswer, stepRules, stepOnAnswer, stepAnswer, forecastOnAnswer, forecastAnswer}
 use Rattle.fields.specs.Ranges.{allBelow}
 use Rattle.gauges.specs.Gauges.{offsetOf, pieceAt, curveAt, tableVersion, gaugeSize, betaAt, gaugeFrom, gaugePlace, gaugeAt}
@@ -38,13 +38,15 @@ use Rattle.network.specs.Step.{weightOf, networkDown, networkCell, networkOutfl
 use Rattle.rating.specs.Noise.{deviation, noiseOf, withNoise}
 use Rattle.rating.specs.Rating.{piecesOf, pieceFor, depth, dischargeAt, onPiece, rated}
 use Rattle.record.specs.Records.{versionOf, gaugeBytes, rainAt, releaseAt, stageAt, readingOf, readingBy, readingAt, rateAnswer, observationOf, acceptedObservation, observationAt, atElement, rainOf, releaseOf, inputRain, inputRelease, inputObservation, inputAt}
-use Rattle.table.specs.KindCounts.{countBefore}
-use Rattle.elements.specs.Kinds.{basinOf, damOf}
+use Rattle.table.specs.KindCounts.{countBefore, extraBefore}
+use Rattle.cells.specs.Cells.{lastCell, elementAmong, elementOf, tankOf, drainingInto, inletOf, lastOf, cellAt, gaugeOf, cells, cellPlace}
+use Rattle.elements.specs.Kinds.{basinOf, damOf, extraTanks}
 use Rattle.record.specs.Rules.{rainFits, releaseFits, stageFits, stagesKept, floatsKept, isAccepted, readingFits, recordRules}
 use Rattle.record.specs.Rules as record-rules
 use Rattle.program.specs.Program.{recordBytes, restAfter, recordsText, runText, program}
 use Rattle.program.specs.Records.{figuresLines, refusalPrinted, forecastPrinted, stepPrinted, recordPrinted}
-use Rattle.state.specs.Rules.{figuresFit, rainsFit, placeFits, stateFits, stepsLeft}
+use Rattle.state.specs.Rules.{figuresFit, rainsFit, placeFits, elementsFit, stateFits, stepsLeft}
+use Rattle.state.specs.Rules as state-rules
 use Rattle.state.specs.Start.{firstFigures, firstPut, started}
 use Rattle.state.specs.States.{figuresOf, rainsOf, placeOf, putFigures, putRains, putPlace, changed}
 use Rattle.table.specs.InUse.{below, inUse, tableIn}
@@ -74,7 +76,7 @@ twice-the-rain = record { rains = rains; releases = λ k l. absurd (omega (arith
 
 -- both, by one line of all that is to be worked out
 worked-out : (program exampleInput ≡ exampleOutput) × TwoStormsDiffer
-unfolding released ownOf correctedBy moved stored elementStep observationNumbers moveNumbers storedNumbers elementNumbers shiftedRains elementAt byKind lagFits basinFits reachFits damFits kindFits elementFits downFits startAnswer stepRules stepOnAnswer stepAnswer forecastOnAnswer forecastAnswer allBelow offsetOf pieceAt curveAt tableVersion gaugeSize betaAt gaugeFrom gaugePlace gaugeAt offsetFits offsetZero pieceOf topBefore pieceInUseFits pieceUnused pieceFits curveFits elementBefore notOnDam betaFits gaugeFits joined lineFrom elementLines answerLines refusalLine gain gainMargin correctedDischarge correctedVariance corrected correctionNumbers stepInflow noInflow joinedInflow oldOutflow oldAndNewOutflow reachInflow meanRainInflow forecastInflow inflowNumbers routedDischarge oldVariancePart inflowVariancePart routedVariance routed varianceNumbers routingNumbers listed byElementAndLead forecastFigures spaceFits leadsAnswer rainCount rainSum leadInflow forecastOwn leadFigures leadNumbers layout weightOf networkDown networkCell networkOutflow aboveOf newFigures networkNumbers stepOwn observedIn noObservation stepFigures stepPut stepped stepNumbers pieceFor depth dischargeAt onPiece rated basinOf damOf countBefore versionOf gaugeBytes rainAt releaseAt stageAt readingOf readingBy readingAt piecesOf lookBy lookOn deviation noiseOf withNoise rateAnswer observationOf acceptedObservation observationAt atElement rainOf releaseOf inputRain inputRelease inputObservation inputAt record-rules.lengthFits record-rules.versionFits rainFits releaseFits stageFits stagesKept floatsKept isAccepted readingFits recordRules recordBytes restAfter recordsText runText program figuresLines refusalPrinted forecastPrinted stepPrinted recordPrinted figuresFit rainsFit placeFits stateFits stepsLeft firstFigures firstPut started figuresOf rainsOf placeOf putFigures putRains putPlace changed below inUse tableIn table-rules.lengthFits table-rules.versionFits countsFit sizeFits tableRules tableOf tablePart emptyState inputAnswer digitsWithin decimal line somePasses underCeiling drained walked gathered newCell weightedMean gapOf blended turned weight statePlaces forecastPlaces paired isReading hasReadingAfter isRefused stateHanded stepHanded forecastHanded hasReadingBy nextState outcome cabinetRun startOutcome outcomes stateAfter recordsOf NotRefused AcceptedWhole
+unfolding lastCell elementAmong elementOf tankOf drainingInto inletOf lastOf cellAt gaugeOf cells cellPlace extraBefore extraTanks tanksFit released ownOf correctedBy moved stored elementStep observationNumbers moveNumbers storedNumbers elementNumbers shiftedRains elementAt byKind lagFits basinFits reachFits damFits kindFits elementFits downFits startAnswer stepRules stepOnAnswer stepAnswer forecastOnAnswer forecastAnswer allBelow offsetOf pieceAt curveAt tableVersion gaugeSize betaAt gaugeFrom gaugePlace gaugeAt offsetFits offsetZero pieceOf topBefore pieceInUseFits pieceUnused pieceFits curveFits elementBefore notOnDam betaFits gaugeFits joined lineFrom elementLines answerLines refusalLine gain gainMargin correctedDischarge correctedVariance corrected correctionNumbers stepInflow noInflow joinedInflow oldOutflow oldAndNewOutflow reachInflow meanRainInflow forecastInflow inflowNumbers routedDischarge oldVariancePart inflowVariancePart routedVariance routed varianceNumbers routingNumbers listed byElementAndLead forecastFigures spaceFits leadsAnswer rainCount rainSum leadInflow forecastOwn leadFigures leadNumbers layout weightOf networkDown networkCell networkOutflow aboveOf newFigures networkNumbers stepOwn observedIn noObservation stepFigures stepPut stepped stepNumbers pieceFor depth dischargeAt onPiece rated basinOf damOf countBefore versionOf gaugeBytes rainAt releaseAt stageAt readingOf readingBy readingAt piecesOf lookBy lookOn deviation noiseOf withNoise rateAnswer observationOf acceptedObservation observationAt atElement rainOf releaseOf inputRain inputRelease inputObservation inputAt record-rules.lengthFits record-rules.versionFits rainFits releaseFits stageFits stagesKept floatsKept isAccepted readingFits recordRules recordBytes restAfter recordsText runText program figuresLines refusalPrinted forecastPrinted stepPrinted recordPrinted figuresFit rainsFit placeFits elementsFit state-rules.tanksFit stateFits stepsLeft firstFigures firstPut started figuresOf rainsOf placeOf putFigures putRains putPlace changed below inUse tableIn table-rules.lengthFits table-rules.versionFits countsFit sizeFits tableRules tableOf tablePart emptyState inputAnswer digitsWithin decimal line somePasses underCeiling drained walked gathered newCell weightedMean gapOf blended turned weight statePlaces forecastPlaces paired isReading hasReadingAfter isRefused stateHanded stepHanded forecastHanded hasReadingBy nextState outcome cabinetRun startOutcome outcomes stateAfter recordsOf NotRefused AcceptedWhole
 worked-out = (
   refl,
   record {

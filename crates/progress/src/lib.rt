@@ -36,6 +36,7 @@ pub fn first_progress() -> Progress
         gauges: 0,
         basins: 0,
         dams: 0,
+        extra: 0,
     };
     Progress {
         judged: false,

@@ -14,6 +14,7 @@ use Rattle.refusal.specs.declared.Refusal.{Refusal}
 use Rattle.refusal.proofs.RuleLaws.{not-both}
 use Rattle.method.specs.declared.Figures.{Figures}
 use Rattle.table.specs.Tables.{TableValues}
+use Rattle.cells.specs.Cells.{lastCell}
 use Rattle.state.specs.States.{State}
 use Rattle.state.specs.Rules.{stateFits}
 use Rattle.network.specs.Forecast.{leadFigures}
@@ -38,7 +39,7 @@ figures-count t s room fs h =
       arith,
       layout-length fs,
       ap (length {A = Figures}) (forecasting-on t s room fs h .1),
-      by-lead-length (λ i lead. leadFigures t s lead i) (t .elements) (t .leads + 1),
+      by-lead-length (λ i lead. leadFigures t s lead (lastCell t i)) (t .elements) (t .leads + 1),
     )
 
 -- the figures of an accepted forecast, whose numbers stand first among these

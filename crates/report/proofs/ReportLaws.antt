@@ -14,8 +14,9 @@ use Rattle.refusal.specs.declared.Refusal.{Refusal}
 use Rattle.refusal.specs.declared.Verdict.{Verdict}
 use Rattle.refusal.specs.declared.Verdict.the-variants.{Accepted, Refused}
 use Rattle.method.specs.declared.Figures.{Figures}
-use Rattle.table.specs.Bounds.{TableBounds}
+use Rattle.table.specs.Bounds.{AcceptedBounds}
 use Rattle.table.specs.InUse.{tableIn}
+use Rattle.cells.proofs.BoundsLaws.{cells-bounds}
 use Rattle.table.specs.Rules.{tableRules}
 use Rattle.table.specs.Tables.{TableValues}
 use Rattle.table.proofs.TableLaws.{rules-accepted}
@@ -96,12 +97,12 @@ refusal-state s n = refl
 
 module _ (t : TableValues) (bytes : List ℕ) (s after : State) (v : Verdict) (h : Answered v after (stepOnAnswer t bytes s) s) where
   -- the state is as long as before
-  pub step-length : TableBounds t → length s ≡ stateNumbers → length after ≡ stateNumbers
+  pub step-length : AcceptedBounds t → length s ≡ stateNumbers → length after ≡ stateNumbers
   unfolding stateAfter
   step-length bounds full = go (stepOnAnswer t bytes s) refl (h .state)
     where
       go : (answer : Answer State) → stepOnAnswer t bytes s ≡ answer → after ≡ stateAfter answer s → length after ≡ stateNumbers
-      go (accepted next) e k = rw k (next-length t bytes s next bounds full e)
+      go (accepted next) e k = rw k (next-length t bytes s next (cells-bounds t bounds) full e)
       go (refused n) e k = rw k full
 
   -- an accepted step, and the forecast after it
@@ -136,10 +137,10 @@ module _ (t : TableValues) (bytes : List ℕ) (s after : State) (v : Verdict) (h
 
 module _ (bytes : List ℕ) (counts : Counts) (weights : List ℕ) (p : Weighed bytes counts weights) where
   pub few-elements : counts .elements ≤ mostElements
-  few-elements = omega (arith, p .counted .held .elements, p .counted .table .bounds .elementsMost)
+  few-elements = omega (arith, p .counted .counted .held .elements, p .counted .counted .table .bounds .elementsMost)
 
   pub few-leads : counts .leads + 1 ≤ mostLeads + 1
-  few-leads = omega (arith, p .counted .held .leads, p .counted .table .bounds .leadsMost)
+  few-leads = omega (arith, p .counted .counted .held .leads, p .counted .counted .table .bounds .leadsMost)
 
   pub lines-few : counts .elements * (counts .leads + 1) ≤ mostElements * (mostLeads + 1)
   lines-few = few-lines (counts .elements) (counts .leads + 1) few-elements few-leads
@@ -149,13 +150,13 @@ module _ (bytes : List ℕ) (counts : Counts) (weights : List ℕ) (p : Weighed 
       (steps : ℕ) (numbers : List ℕ) {before after : List ℕ} {at end : ℕ}
       → Put before at (answerLines steps (counts .leads + 1) numbers (counts .elements)) after end
       → Put before at (answerLines steps (tableIn bytes .leads + 1) numbers (tableIn bytes .elements)) after end
-  counted-lines steps numbers h = put-same (rw (p .counted .held .leads, p .counted .held .elements)) h
+  counted-lines steps numbers h = put-same (rw (p .counted .counted .held .leads, p .counted .counted .held .elements)) h
 
   pub counted-under :
       (numbers : List ℕ)
       → FiguresUnderCeiling numbers (4 * (tableIn bytes .elements * (tableIn bytes .leads + 1)))
       → FiguresUnderCeiling numbers (4 * (counts .elements * (counts .leads + 1)))
-  counted-under numbers h = rw (p .counted .held .leads, p .counted .held .elements) h
+  counted-under numbers h = rw (p .counted .counted .held .leads, p .counted .counted .held .elements) h
 
 -- ---- what a record leaves
 
@@ -173,7 +174,7 @@ record-on table bytes s h =
     rw (e, rules-accepted table (stepOnAnswer (tableIn table) bytes s) h)
 
 -- the state that a record leaves is one that rule 8 accepts, where the state before it was, and as long
-module _ (t : TableValues) (bytes : List ℕ) (s : State) (bounds : TableBounds t) (full : length s ≡ stateNumbers) where
+module _ (t : TableValues) (bytes : List ℕ) (s : State) (bounds : AcceptedBounds t) (full : length s ≡ stateNumbers) where
   record-fits : stateFits t s ≡ true → stateFits t (recordOnPrinted t bytes s .state) ≡ true
   unfolding recordOnPrinted stepPrinted
   record-fits fits = go (stepOnAnswer t bytes s) refl
@@ -183,7 +184,7 @@ module _ (t : TableValues) (bytes : List ℕ) (s : State) (bounds : TableBounds 
           → stepOnAnswer t bytes s ≡ answer
           → stateFits t (stepPrinted t (λ next. forecastOnAnswer t next answerNumbers) s answer .state) ≡ true
       go (accepted next) e =
-          rw (← forecast-state t next (forecastOnAnswer t next answerNumbers)) (next-fits t bytes s next bounds full e)
+          rw (← forecast-state t next (forecastOnAnswer t next answerNumbers)) (next-fits t bytes s next (cells-bounds t bounds) full e)
       go (refused n) e = rw (← refusal-state s n) fits
 
   record-length : length (recordOnPrinted t bytes s .state) ≡ stateNumbers
@@ -195,7 +196,7 @@ module _ (t : TableValues) (bytes : List ℕ) (s : State) (bounds : TableBounds 
           → stepOnAnswer t bytes s ≡ answer
           → length (stepPrinted t (λ next. forecastOnAnswer t next answerNumbers) s answer .state) ≡ stateNumbers
       go (accepted next) e =
-          rw (← forecast-state t next (forecastOnAnswer t next answerNumbers)) (next-length t bytes s next bounds full e)
+          rw (← forecast-state t next (forecastOnAnswer t next answerNumbers)) (next-length t bytes s next (cells-bounds t bounds) full e)
       go (refused n) e = rw (← refusal-state s n) full
 
 -- and so for every record on what it relies on
@@ -205,6 +206,6 @@ pub record-left :
     → after ≡ recordOnPrinted (tableIn table) bytes s .state
     → (length after ≡ stateNumbers) × (stateFits (tableIn table) after ≡ true)
 record-left table bytes counts weights s space fours out at h e = (
-  rw e (record-length (tableIn table) bytes s (h .weighed .counted .table .bounds) (h .stateWhole)),
-  rw e (record-fits (tableIn table) bytes s (h .weighed .counted .table .bounds) (h .stateWhole) (h .stateKept)),
+  rw e (record-length (tableIn table) bytes s (h .weighed .counted .counted .table .bounds) (h .stateWhole)),
+  rw e (record-fits (tableIn table) bytes s (h .weighed .counted .counted .table .bounds) (h .stateWhole) (h .stateKept)),
 )

@@ -9,7 +9,7 @@ use Rattle.rating.specs.Noise.{RatedReading}
 use Rattle.rating.specs.Looks.{Look}
 use Rattle.method.specs.declared.Figures.{Figures}
 use Rattle.table.specs.Tables.{TableValues}
-use Rattle.table.specs.KindCounts.{basinCount, damCount}
+use Rattle.table.specs.KindCounts.{basinCount, damCount, extraCount}
 use Rattle.state.specs.States.{State}
 use Rattle.state.specs.Answers.{stateAfter}
 use Rattle.network.specs.Lent.{countWritten, lentAfter}
@@ -21,7 +21,7 @@ use Rattle.river.specs.declared.Display.{Display}
 
 -- the version of the interface
 abbrev pub version : ℕ
-version = 5
+version = 6
 
 -- the number for no; 0 where the call is accepted
 unfoldable pub refusalOf : {A : Type 0} → Answer A → ℕ
@@ -29,7 +29,8 @@ refusalOf (accepted a) = 0
 refusalOf (refused n) = n
 
 -- what a table asks the host to lend: of a record of version 1 "1 + 2 × basins + 2 × M" bytes, and 4 a dam (M-100), after the two of its
--- length, and "4 × N × (L + 1)" numbers of a forecast; and T
+-- length, and "4 × N × (L + 1)" numbers of a forecast; and T; M-107: the tanks above the
+-- last of their elements, and the places of a state that are in use
 unfoldable pub planOf : TableValues → TablePlan
 planOf t =
     record {
@@ -39,6 +40,8 @@ planOf t =
       gauges = t .gauges;
       basins = basinCount t;
       dams = damCount t;
+      tanks = extraCount t;
+      places = t .elements + extraCount t;
       «record_bytes» = 3 + 2 * basinCount t + 4 * damCount t + 2 * t .gauges;
       «forecast_numbers» = 4 * t .elements * (t .leads + 1);
       «step_minutes» = t .step;
@@ -53,6 +56,8 @@ noPlan n =
       gauges = 0;
       basins = 0;
       dams = 0;
+      tanks = 0;
+      places = 0;
       «record_bytes» = 0;
       «forecast_numbers» = 0;
       «step_minutes» = 0;

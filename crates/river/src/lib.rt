@@ -30,6 +30,8 @@ pub struct TablePlan {
     pub gauges: usize,
     pub basins: usize,
     pub dams: usize,
+    pub tanks: usize,
+    pub places: usize,
     pub record_bytes: usize,
     pub forecast_numbers: usize,
     pub step_minutes: u64,
@@ -135,6 +137,7 @@ fn plan_of(counts: Counts) -> TablePlan
     let gauges = counts.gauges;
     let basins = counts.basins;
     let dams = counts.dams;
+    let tanks = counts.extra;
     TablePlan {
         refusal: 0,
         elements,
@@ -142,6 +145,8 @@ fn plan_of(counts: Counts) -> TablePlan
         gauges,
         basins,
         dams,
+        tanks,
+        places: elements + tanks,
         record_bytes: 3 + 2 * basins + 4 * dams + 2 * gauges,
         forecast_numbers: 4 * elements * (leads + 1),
         step_minutes: counts.step,
@@ -158,6 +163,8 @@ fn no_plan(number: u64) -> TablePlan
         gauges: 0,
         basins: 0,
         dams: 0,
+        tanks: 0,
+        places: 0,
         record_bytes: 0,
         forecast_numbers: 0,
         step_minutes: 0,
@@ -169,7 +176,7 @@ fn no_plan(number: u64) -> TablePlan
 pub extern "C" fn river_version() -> u64
     ensures { λ r. ⌜ r ≡ version ⌝ }
 {
-    5
+    6
 }
 
 // Judges the bytes of a table: rules 1 to 7.

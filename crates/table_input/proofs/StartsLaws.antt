@@ -20,7 +20,10 @@ use Rattle.refusal.specs.Verdicts.{verdictAnswer}
 use Rattle.refusal.proofs.RuleLaws.{not-both, rule-kept}
 use Rattle.fields.specs.Bytes.{number32}
 use Rattle.table.specs.Rules.{lengthFits, tableRules}
+use Rattle.table.specs.Bounds.{TableBounds}
 use Rattle.table.specs.InUse.{tableIn}
+use Rattle.cells.specs.Cells.{cells}
+use Rattle.cells.proofs.BoundsLaws.{cells-bounds}
 use Rattle.table.proofs.TableLaws.{rules-accepted, rules-refused}
 use Rattle.state.specs.States.{State}
 use Rattle.state.specs.Start.{started}
@@ -174,9 +177,12 @@ module _
       let part = ap length (o .bytes v) ∙ length-take (number32 input 0 + 4) input in
       omega (arith, few, all, part)
 
+  started-bounds : TableBounds (cells (tableIn (take (r .length) input)))
+  started-bounds = cells-bounds _ (o .fits v .counted .counted .table .bounds)
+
   pub started-input-fits : stateFits (tableIn (take (r .length) input)) after ≡ true
-  started-input-fits = rw started-here (started-fits (tableIn (take (r .length) input)) s (o .fits v .counted .table .bounds) full)
+  started-input-fits = rw started-here (started-fits (tableIn (take (r .length) input)) s started-bounds full)
 
   pub started-input-length : length after ≡ stateNumbers
   started-input-length =
-      rw started-here (started-length (tableIn (take (r .length) input)) s full (o .fits v .counted .table .bounds .elementsMost))
+      rw started-here (started-length (tableIn (take (r .length) input)) s full (started-bounds .elementsMost))

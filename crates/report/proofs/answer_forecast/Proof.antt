@@ -43,7 +43,7 @@ put-lines-requires c κs =
     let p = s .pre in
     let few = lines-few _ _ _ (p .weighed) in
     let leads = few-leads _ _ _ (p .weighed) in
-    let shown = forecast-shown _ _ (p .stateKept) _ _ (f .forecast-in .ensures) _ (m .enum-told .given .1) (rest-of _ _ _ (ap (λ k. 4 * (k + 1)) (p .weighed .counted .held .leads))) in
+    let shown = forecast-shown _ _ (p .stateKept) _ _ (f .forecast-in .ensures) _ (m .enum-told .given .1) (rest-of _ _ _ (ap (λ k. 4 * (k + 1)) (p .weighed .counted .counted .held .leads))) in
     record {
       room = omega (arith, few, p .room);
       there = part-room (f .forecast-in .last .1 .1 .1 .1 .0) _ _ leads few (f .forecast-in .kept .1 .1 .1 .1 .0 ∙ p .spaceFull);
@@ -73,7 +73,7 @@ returns c =
     let s = f .before .before .before .before .before .before .before in
     let p = s .pre in
     let few = lines-few _ _ _ (p .weighed) in
-    let shown = forecast-shown _ _ (p .stateKept) _ _ (f .forecast-in .ensures) _ (m .enum-told .given .1) (rest-of _ _ _ (ap (λ k. 4 * (k + 1)) (p .weighed .counted .held .leads))) in
+    let shown = forecast-shown _ _ (p .stateKept) _ _ (f .forecast-in .ensures) _ (m .enum-told .given .1) (rest-of _ _ _ (ap (λ k. 4 * (k + 1)) (p .weighed .counted .counted .held .leads))) in
     lines-printed _ _ _ _ shown (counted-lines _ _ _ (p .weighed) _ _ (l .put-lines .ensures .0)) (omega (arith, few, l .put-lines .ensures .1))
 
 same-length-3 : tie.Need-same-length-3

@@ -1,6 +1,7 @@
 -- `answer_record` meets its contract.
 use borrow.Author.Needs.{needs}
 use native.Mathlib.Omega.{arith}
+use Rattle.cells.proofs.BoundsLaws.{cells-bounds}
 use Rattle.entries.proofs.NextLaws.{answered-fits}
 use Rattle.report.proofs.ReportLaws.{step-length, reported-accepted, reported-refused}
 use Rattle.report.proofs.answer_record.Statement.{statement}
@@ -21,8 +22,8 @@ answer-forecast-requires c κs =
     let v = w .step-lent .ensures in
     record {
       weighed = p .weighed;
-      stateWhole = step-length _ _ _ _ _ v (p .weighed .counted .table .bounds) (p .stateWhole);
-      stateKept = answered-fits _ _ _ _ (p .weighed .counted .table .bounds) (p .stateWhole) _ v (m .enum-told .given .1);
+      stateWhole = step-length _ _ _ _ _ v (p .weighed .counted .counted .table .bounds) (p .stateWhole);
+      stateKept = answered-fits _ _ _ _ (cells-bounds _ (p .weighed .counted .counted .table .bounds)) (p .stateWhole) _ v (m .enum-told .given .1);
       spaceFull = omega (arith, w .step-lent .kept, p .spaceFull);
       digits = p .digits;
       room = p .room;

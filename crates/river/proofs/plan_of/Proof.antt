@@ -13,11 +13,8 @@ most c =
     let short : c .args .counts .leads + 1 ≤ mostLeads + 1 = omega (arith, c .pre .leads) in
     omega (arith, mul-le-mul (c .pre .elements) short)
 
-mul-t7 : tie.Need-mul-t7
-mul-t7 c = search needs
-
 add-t8 : tie.Need-add-t8
-add-t8 c = search needs
+add-t8 c = omega (arith, c .pre .places)
 
 mul-t9 : tie.Need-mul-t9
 mul-t9 c = search needs
@@ -38,13 +35,19 @@ add-t14 : tie.Need-add-t14
 add-t14 c = search needs
 
 mul-t15 : tie.Need-mul-t15
-mul-t15 c = omega (arith, most c)
+mul-t15 c = search needs
+
+add-t16 : tie.Need-add-t16
+add-t16 c = search needs
+
+mul-t17 : tie.Need-mul-t17
+mul-t17 c = omega (arith, most c)
 
 returns : tie.Need-returns
 unfolding planOf
-returns c = record { of = λ t h b d. rw (h .elements, h .leads, h .gauges, h .step, b, d) }
+returns c = record { of = λ t h b d x. rw (h .elements, h .leads, h .gauges, h .step, b, d, x) }
 
 pub plan-of-spec : {M : Type 1} → statement M
 plan-of-spec =
     tie.close
-    (tie.spec mul-t7 add-t8 mul-t9 add-t10 mul-t11 add-t12 mul-t13 add-t14 mul-t15 returns)
+    (tie.spec add-t8 mul-t9 add-t10 mul-t11 add-t12 mul-t13 add-t14 mul-t15 add-t16 mul-t17 returns)

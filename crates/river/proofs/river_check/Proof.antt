@@ -15,7 +15,8 @@ enum-told c = search needs
 
 plan-of-requires : tie.Need-plan-of-requires
 plan-of-requires c κs =
-    let k = table-accepted _ _ (c .before .before .read .ensures) (c .enum-told .given .1) .counted in
+    let p = table-accepted _ _ (c .before .before .read .ensures) (c .enum-told .given .1) .counted in
+    let k = p .counted in
     let b = k .table .bounds in
     record {
       elements = rw (k .held .elements) (b .elementsMost);
@@ -23,6 +24,7 @@ plan-of-requires c κs =
       gauges = rw (k .held .gauges) (b .gaugesMost);
       basins = rw (k .basins) (le-trans (basins-most _ _) (b .elementsMost));
       dams = rw (k .dams) (le-trans (dams-most _ _) (b .elementsMost));
+      places = rw (k .held .elements, p .extra) (b .placesMost);
     }
 
 enum-known-verdict : tie.Need-enum-known-verdict
@@ -38,7 +40,7 @@ returns : tie.Need-returns
 returns c =
     let e = c .before in
     let k = table-accepted _ _ (e .before .before .read .ensures) (e .enum-told .given .1) in
-    plan-replied _ _ (k .kept) (c .plan-of .ensures .of _ (k .counted .held) (k .counted .basins) (k .counted .dams))
+    plan-replied _ _ (k .kept) (c .plan-of .ensures .of _ (k .counted .counted .held) (k .counted .counted .basins) (k .counted .counted .dams) (k .counted .extra))
 
 returns-2 : tie.Need-returns-2
 returns-2 c =

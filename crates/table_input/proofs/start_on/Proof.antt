@@ -16,15 +16,15 @@ enum-told c = search needs
 start-on-requires : tie.Need-start-on-requires
 start-on-requires c κs =
     let e = c .before in
-    let k = table-accepted _ _ (e .before .before .before .read .ensures) (e .enum-told .given .1) in (k .counted .table, k .counted .held .elements)
+    let k = table-accepted _ _ (e .before .before .before .read .ensures) (e .enum-told .given .1) in (k .counted .counted .table, k .counted .counted .held .elements)
 
 put-weights-requires : tie.Need-put-weights-requires
 put-weights-requires c κs =
     let e = c .before .before .before in
     let k = table-accepted _ _ (e .before .before .before .read .ensures) (e .enum-told .given .1) in
     let s = e .before .before .before .before .before .before in (
-      record { table = k .counted .table; step = k .counted .held .step; elements = k .counted .held .elements },
-      omega (arith, k .counted .held .elements, k .counted .table .bounds .elementsMost, s .pre),
+      record { table = k .counted .counted .table; step = k .counted .counted .held .step; elements = k .counted .counted .held .elements },
+      omega (arith, k .counted .counted .held .elements, k .counted .counted .table .bounds .elementsMost, s .pre),
     )
 
 enum-told-2 : tie.Need-enum-told-2
