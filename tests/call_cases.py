@@ -3,25 +3,29 @@
 cases() lists them; nothing is built before it is asked for. What standard input can reach is tried in inputs.py; here is the rest:
 states that no run brings about, lent space, places that no call may touch, each of rule 16's numbers on the ceiling, old and new outflows
 above a reach, looks along a curve with their noise, trials of a step, floats in steps and trials, tables of either version, what a
-display gets, and two storms.
+display gets, two storms, and the places of tanks.
 """
 from dataclasses import dataclass, replace
 from itertools import product
 from typing import Callable
 
 from calculator.encode import big_endian, record_bytes, table_bytes
-from calculator.whole_numbers import (BASIN, CEILING, GAP, MOST_ELEMENTS, RULES, SCALE, Figures, Refused, Rules, State, decode_table, start,
-                                      step)
+from calculator.whole_numbers import (BASIN, CEILING, GAP, RULES, SCALE, Figures, Refused, Rules, State, Table, decode_table, start, step,
+                                      table_or_number)
 from inputs import (ABOVE_ALL, BYTE_ORDERS, CURVE_EDGES, CURVE_NOISE, DAM_RECORDS, EXACT_HALVES, FIVE_TOPS, FLOAT_GAP, FLOAT_RECORDS,
-                    HALVES_OF_THIRTEEN, NEAR_30_METRES, NOISE_PLACES, PASSES, SHAPES, SMALL_RECORDS, SMALL_T, SPECIAL, WAYS, added_noise,
-                    at_each_gauge, basin, count_of, curve_rivers, dam, dam_edits, dam_river, dam_table, float_bits, float_edits,
-                    float_river, float_rivers, float_rows, float_table, gauge, gauged_reaches, in_floats, last_places, mean_inflow_rivers,
-                    near_halves, noise_edges, noise_edits, noise_orders, noise_river, noise_rivers, noise_table, piece_of, rule_edits,
-                    reach, river_of_curves, small_river, small_table, some_curve, some_records, some_stage, some_table, some_trouble,
-                    spoiled, spoiled_values, stage_bits, stages_of, storms, taking_curve, with_rains)
+                    HALVES_OF_THIRTEEN, NEAR_30_METRES, NOISE_PLACES, PASSES, SHAPES, SMALL_RECORDS, SMALL_T, SPECIAL, TANK_RECORDS, WAYS,
+                    added_noise,
+                    at_each_gauge, basin, ceiling_of_tanks, count_of, curve_rivers, dam, dam_edits, dam_river, dam_table, drawn_tanks,
+                    float_bits, float_edits, float_river, float_rivers, float_rows, float_table, gauge, gauged_reaches, in_floats,
+                    in_reaches, last_places, mean_inflow_rivers, near_halves, noise_edges, noise_edits, noise_orders, noise_river,
+                    noise_rivers, noise_table, piece_of, rule_edits, reach, river_of_curves, small_river, small_table, some_curve,
+                    some_records, some_stage, some_table, some_trouble, spoiled, spoiled_values, stage_bits, stages_of, storms,
+                    taking_curve, tank_edits, tank_river, tank_rivers, tank_table, tanks, tanks_and_others, with_rains)
+from judge import cells_of
 
 LARGEST = 2 ** 64 - 1
 ROOM_FOR_ALL = 4 * 64 * 13
+FEWEST_PLACES = 64  # of a state that is sent; the driver fills the others
 
 
 @dataclass(frozen=True)
@@ -36,6 +40,7 @@ class Call:
     asked: tuple = (0, 0)  # gauge and stage of a rate, discharge and margin of a show
     twin: bool = False  # the call before has the same readings, or table, in the other version: the replies must be equal
     wetter: bool = False  # the call before is that of a storm with at most this one's rain, all else equal
+    reaches: bool = False  # the call before is on a table with tanks, which this one has written out as reaches
 
 
 @dataclass
@@ -65,27 +70,35 @@ def with_number(state, place, which, value):
     return with_figure(state, place, which, value) if which < 4 else with_rain(state, place, which - 4, value)
 
 
-def state_of(count, steps, figures=(), rains=()):
+def state_of(count, steps, figures=(), rains=(), places=FEWEST_PLACES):
     """A state with these figures and rains at its first places and 0 elsewhere."""
     figures, rains = [Figures(*each) for each in figures], list(map(tuple, rains))
-    return State(count, steps, figures + [Figures(0, 0, 0, 0)] * (MOST_ELEMENTS - len(figures)),
-                 rains + [(0, 0, 0)] * (MOST_ELEMENTS - len(rains)))
+    return State(count, steps, figures + [Figures(0, 0, 0, 0)] * (places - len(figures)), rains + [(0, 0, 0)] * (places - len(rains)))
 
 
-def noise_state(random):
+def places_sent(table):
+    """Two places more than an accepted table has in use, 64 at least."""
+    decoded = table_or_number(table)
+    return max(FEWEST_PLACES, decoded.places + 2) if isinstance(decoded, Table) else FEWEST_PLACES
+
+
+def noise_state(random, table=b"", places=0):
     """Anything at all in every place."""
-    def some():
-        return random.choice((0, 1, 3_001, CEILING, CEILING + 1, LARGEST, random.getrandbits(32), random.getrandbits(64)))
-    return State(some(), some(), [Figures(some(), some(), some(), some()) for _ in range(64)], [(some(), some(), some()) for _ in range(64)])
+    some = [0, 1, 3_001, CEILING, CEILING + 1, LARGEST] * 4 + [random.getrandbits(bits) for bits in (32, 64) * 4]
+    places = places or places_sent(table)
+    numbers = random.choices(some, k=2 + 7 * places)
+    return State(*numbers[:2], [Figures(*numbers[at:at + 4]) for at in range(2, len(numbers), 7)],
+                 [tuple(numbers[at:at + 3]) for at in range(6, len(numbers), 7)])
 
 
 def marked_state(random, table, figure, rain, steps):
-    """A state that rule 8 takes, drawn by figure() and rain(); the rains of reaches and dams and places beyond N hold anything."""
-    noise, decoded = noise_state(random), decode_table(table)
-    count = len(decoded.elements)
-    figures = [Figures(figure(), figure(), figure(), figure()) for _ in range(count)]
-    rains = [(rain(), rain(), rain()) if element.kind == BASIN else kept for element, kept in zip(decoded.elements, noise.rains)]
-    return State(count, steps, figures + noise.figures[count:], rains + noise.rains[count:])
+    """A state that rule 8 takes, drawn by figure() and rain(); the rains of all but basins and places not in use hold anything."""
+    noise, decoded = noise_state(random, table), decode_table(table)
+    figures = [Figures(figure(), figure(), figure(), figure()) for _ in range(decoded.places)]
+    rains = list(noise.rains)
+    for number in decoded.numbers_of(BASIN):
+        rains[number - 1] = rain(), rain(), rain()
+    return State(len(decoded.elements), steps, figures + noise.figures[decoded.places:], rains)
 
 
 def some_steps(random):
@@ -115,9 +128,9 @@ def lent_numbers(random, size):
 
 
 def moved_state(random, table, records, steps=2):
-    """After a start on noise and some steps: what lies beyond N and in the rain places of reaches and dams is anything."""
+    """After a start on noise and some steps: what lies in places not in use and in the rain places of all but basins is anything."""
     data = table_bytes(table)
-    state = start(data, noise_state(random))
+    state = start(data, noise_state(random, data))
     for k in range(steps):
         state = step(data, record_bytes(*records[k % 3]), state)
     return state
@@ -199,7 +212,8 @@ def other_river(random):
 def starts(random):
     for way in WAYS:
         table = some_table(random, random.choice((1, 2, 5, 63, 64)), random.choice(SHAPES), way)
-        yield Call(f"start from noise, {way}", "start", table_bytes(table), noise_state(random), side=random.randrange(2))
+        data = table_bytes(table)
+        yield Call(f"start from noise, {way}", "start", data, noise_state(random, data), side=random.randrange(2))
     yield Call("start, refused, from noise", "start", SMALL[:-1], noise_state(random))
 
 
@@ -256,8 +270,14 @@ class Watched(Rules):
         spread = weight_margin * (abs(x - y) + x_margin + y_margin) // SCALE
         return value, (weight * x_margin + (SCALE - weight) * y_margin) // SCALE + spread + 3
 
+    def moved_tanks(self, element, weight, old, inflow):
+        self.tanks_left = len(old)
+        return super().moved_tanks(element, weight, old, inflow)
+
     def move(self, element, weight, old, inflow):
-        self.watch_all("basin inflow" if element.kind == BASIN else "reach inflow", inflow)
+        self.tanks_left -= 1
+        inner = INNER if self.tanks_left else ""
+        self.watch_all("basin inflow" if element.kind == BASIN else f"{inner}reach inflow", inflow)
         discharge, margin = self.blend(old.discharge, old.margin, inflow.discharge, inflow.margin, weight, 3)
         a, a_margin = self.blend(old.variance, old.variance_margin, 0, 0, weight, 3)
         b, b_margin = self.blend(inflow.variance, inflow.variance_margin, 0, 0, SCALE - weight, 3)
@@ -265,7 +285,7 @@ class Watched(Rules):
         self.watch("margin of b", b_margin)
         variance, variance_margin = self.blend(a, a_margin, b, b_margin, weight, 3)
         moved = Figures(discharge, margin, variance + element.system_noise, variance_margin)
-        self.watch_all("moved", moved)
+        self.watch_all(f"{inner}moved", moved)
         return moved
 
     def correct(self, figures, z, noise):
@@ -437,7 +457,7 @@ def edited_calls(edit, river=small_river):
         edit(table, records)
         data, state, count = table_bytes(table), moved_state(random, right, right_records, 1), len(table["elements"])
         record = record_bytes(*next((new for new, old in zip(records, right_records) if new != old), right_records[1]))
-        yield Call("start", "start", data, noise_state(random), side=random.randrange(2))
+        yield Call("start", "start", data, noise_state(random, data), side=random.randrange(2))
         yield from both("edited", random, replace(state, count=count), data, record, room=4 * count * 13)
     return build
 
@@ -479,8 +499,8 @@ def last_place_calls(random):
     for name, *rivers in last_places():
         for table, record in rivers:
             data = table_bytes(table)
-            yield Call(f"{name}, start", "start", data, noise_state(random), side=random.randrange(2))
-            yield Call(f"{name}, step", "step", data, state_of(64, 0), record_bytes(*record), side=random.randrange(2))
+            yield Call(f"{name}, start", "start", data, noise_state(random, data), side=random.randrange(2))
+            yield Call(f"{name}, step", "step", data, state_of(64, 0, places=72), record_bytes(*record), side=random.randrange(2))
 
 
 def empty_calls(random):
@@ -502,7 +522,7 @@ ALL_DAMS = table_bytes(dict(T=60, L=12, elements=[dam(first_discharge=k, first_v
 
 def dam_starts(random):
     for table in (DAMS, ALL_DAMS):
-        yield Call("start from noise", "start", table, noise_state(random), side=random.randrange(2))
+        yield Call("start from noise", "start", table, noise_state(random, table), side=random.randrange(2))
 
 
 def dam_numbers(random):
@@ -815,7 +835,8 @@ def random_looks(random):
 def steps_of(table, records):
     """A start and a step for each record, also after a refused one."""
     def build(random):
-        data, noise = table_bytes(table), noise_state(random)
+        data = table_bytes(table)
+        noise = noise_state(random, data)
         yield Call("start", "start", data, noise)
         state = start(data, noise)
         for number, given in enumerate(records, 1):
@@ -871,7 +892,7 @@ def random_calls(count=None):
         data, record = table_bytes(table), record_bytes(*some_records(random, table, 1, random.choice(("typical", "wild")))[0])
         state = fitting_state(random, data, random.choice(("typical", "typical", "small", "small", "wild", "ceiling")))
         for _ in range(random.choice((0, 0, 0, 1, 2))):  # one number beyond its range, or not in use
-            place, which = random.randrange(min(64, state.count + 2)), random.randrange(7)
+            place, which = random.randrange(min(len(state.figures), tanks_and_others(table) + 2)), random.randrange(7)
             state = with_number(state, place, which, random.getrandbits(random.choice((33, 64))))
         room = 4 * len(table["elements"]) * (table["L"] + 1) + random.choice((-1, 0, 0, 1, 5))
         yield from both("random", random, state, data, record, room)
@@ -888,7 +909,8 @@ def noise_calls(random):
 
 def run_of(random, table, records):
     """A start and some steps, with a forecast after each: the state of a call is what the calculator gave to the one before."""
-    data, state, room = table_bytes(table), noise_state(random), 4 * len(table["elements"]) * (table["L"] + 1)
+    data, room = table_bytes(table), 4 * len(table["elements"]) * (table["L"] + 1)
+    state = noise_state(random, data)
     yield Call("start", "start", data, state)
     try:
         state = start(data, state)
@@ -972,7 +994,7 @@ def trial_rooms(count, leads):
 
 def refused_by_each():
     """(number, table, record, state) of a step on the river with dams, on each of a step's numbers alone; 0 where it is accepted."""
-    state = start(DAMS, State())
+    state = start(DAMS, state_of(0, 0))
 
     def edited(**changes):
         table = dam_table()
@@ -1032,7 +1054,8 @@ def cut_trials(random):
 
 def trial_run(random, table, records):
     """A start and steps. Before each step its record is tried with other stages, with gaps, with a stage of 13, and as it is."""
-    data, state = table_bytes(table), noise_state(random)
+    data = table_bytes(table)
+    state = noise_state(random, data)
     yield Call("start", "start", data, state)
     state = start(data, state)
     for rains, stages, *releases in records:
@@ -1078,7 +1101,7 @@ def independence(elements, gauged, releases=()):
     data, basins = table_bytes(table), count_of(table, 1)
 
     def build(random):
-        first = start(data, noise_state(random))
+        first = start(data, noise_state(random, data))
         moved = step(data, record_bytes((120,) * basins, [900 + 10 * k for k, _ in enumerate(gauged)], releases), first)
         for state in (first, moved, replace(moved, steps=9_999)):
             for number, _ in enumerate(gauged):
@@ -1108,6 +1131,9 @@ def independence_rivers():
     yield "chain of 64", chain, tuple(range(1, 65, 4)), ()
     cut = [dam(down=each["down"], **water()) if k % 8 == 5 else each for k, each in enumerate(chain)]
     yield "chain of 64 with dams", cut, tuple(range(1, 65, 4)), tuple(10 ** 6 * k for k in range(8))
+    tanked = [basin(down=2, **water()), tanks(3, down=5, **water()), basin(down=4, **water()), tanks(8, down=5, lag=90, **water()),
+              tanks(2, down=7, **water()), tanks(4, **water()), dam(down=8, **water()), tanks(2, **water())]
+    yield "tanks", tanked, (1, 2, 3, 4, 5, 6, 8), (10 ** 6,)
     yield "63 basins into a reach", [basin(down=64, area=50, **water()) for _ in range(63)] + [reach(**water())], (*range(1, 61, 4), 64), ()
 
 
@@ -1127,7 +1153,7 @@ def independence_of_small(random):
         table = table_bytes(dict(T=60, L=1, elements=elements, gauges=[gauge(number, R=50_000) for number in gauged]))
         basins = sum(element["kind"] == 1 for element in elements)
         fields = (90,) * basins, tuple(random.randint(600, 1_500) for _ in gauged), (10 ** 6,) * (3 - len(gauged))
-        state = start(table, noise_state(random))
+        state = start(table, noise_state(random, table))
         for place, _ in enumerate(gauged):
             yield from reading_trials(random, table, state, fields, place, (random.randint(600, 999), random.randint(1_000, 2_000), GAP))
 
@@ -1152,6 +1178,7 @@ def trial_cases():
     edits += [(rule, edited_calls(edit, dam_river)) for rule, edit in dam_edits()]
     edits += [(rule, edited_calls(edit, float_river)) for rule, edit in float_edits()]
     edits += [(rule, edited_calls(edit, noise_river)) for rule, edit in noise_edits()]
+    edits += [(rule, edited_calls(edit, tank_river)) for rule, edit in tank_edits()]
     for rule in sorted({rule for rule, _ in edits}):
         yield f"rule {rule}", trials_of(*(build for about, build in edits if about == rule))
     yield "order of 15", trial_orders
@@ -1182,6 +1209,7 @@ def trial_cases():
 def trial_run_cases():
     yield "run", lambda random: trial_run(random, *small_river())
     yield "run with dams", lambda random: trial_run(random, *dam_river())
+    yield "run with tanks", lambda random: trial_run(random, *tank_river())
     yield from (("run", trial_runs()) for _ in range(20))
     yield "run of 12", trial_runs(12)
     yield from ((f"curve, {name}", trials_of(steps_of(table, records))) for name, table, records in curve_rivers())
@@ -1199,7 +1227,7 @@ def float_steps(table, records):
     data = table_bytes(table)
 
     def build(random):
-        state = replace(start(data, noise_state(random)), steps=3)
+        state = replace(start(data, noise_state(random, data)), steps=3)
         for number, record in enumerate(records, 1):
             yield Call(f"record {number}", "step", data, state, record_bytes(*record), side=random.randrange(2))
     return build
@@ -1239,7 +1267,7 @@ def in_both_versions(river, entry):
     def build(random):
         table, records = river() if callable(river) else river
         data, need = table_bytes(table), 4 * len(table["elements"])
-        state = start(data, noise_state(random))
+        state = start(data, noise_state(random, data))
         for record in records:
             lent = lent_numbers(random, need + 1) if entry == "trial" else ()
             call = Call(f"version 1, {entry}", entry, data, state, record_bytes(*record), lent, random.randrange(2))
@@ -1256,7 +1284,7 @@ def float_independence(random):
     """By gauge trials with one float, another, a gap and minus zero: each differs from the next, and only where the gauge's water comes."""
     elements, gauged = [reach(down=3, **water()), reach(down=3, **water()), reach(down=4, **water()), dam(**water())], (1, 2, 3)
     table = table_bytes(dict(T=60, L=1, elements=elements, gauges=[gauge(number, R=50_000, pieces=[(30_001, 900, 0)]) for number in gauged]))
-    state, others = start(table, noise_state(random)), [float_bits(0.9), float_bits(1.1), float_bits(1.3)]
+    state, others = start(table, noise_state(random, table)), [float_bits(0.9), float_bits(1.1), float_bits(1.3)]
     for number, _ in enumerate(gauged):
         for bits in (float_bits(0.7), float_bits(1.2345), FLOAT_GAP, 0x8000_0000, float_bits(2.0)):
             record = record_bytes((), (*others[:number], bits, *others[number + 1:]), (10 ** 6,), 2)
@@ -1396,7 +1424,7 @@ def in_either_table(random, table, records):
         call = Call(f"version 1, {entry}", entry, one, state, record, lent_numbers(random, room), random.randrange(2), asked)
         return [call, replace(call, name=f"version 2, {entry}", table=two, twin=True)]
 
-    state, need = noise_state(random), 4 * len(table["elements"])
+    state, need = noise_state(random, one), 4 * len(table["elements"])
     yield from both_tables("check", state) + both_tables("start", state)
     for number, each in enumerate(table["gauges"], 1):
         yield from both_tables("rate", state, asked=(number, random.choice((some_stage(random, each), random.randint(0, 30_000)))))
@@ -1422,7 +1450,7 @@ def noise_cases():
         yield name, build
     yield from (("rate, random", random_noise_looks) for _ in range(6))
     for name, river in (("small river", small_river()), ("dams", dam_river()), ("floats", float_river()),
-                        *((name, (table, records[:8])) for name, table, records in curve_rivers())):
+                        ("tanks", tank_river()), *((name, (table, records[:8])) for name, table, records in curve_rivers())):
         yield f"{name} as in version 1", lambda random, river=river: in_either_table(random, *river)
     yield from (("random as in version 1", random_in_either_table) for _ in range(12))
 
@@ -1477,7 +1505,7 @@ def calls_of_storms(table, records, rains):
                           for storm, state, record in zip(("first", "second"), states, sent))
             return [one, replace(other, wetter=True)]
 
-        states = [start(data, noise_state(random))] * 2
+        states = [start(data, noise_state(random, data))] * 2
         yield from both("forecast", states, room=need * (table["L"] + 1))
         for pair in zip(records, with_rains(records, rains)):
             sent = [record_bytes(*record) for record in pair]
@@ -1485,6 +1513,189 @@ def calls_of_storms(table, records, rains):
             states = [step(data, record, state) for record, state in zip(sent, states)]
             yield from both("forecast", states, room=need * (table["L"] + 1))
     return build
+
+
+# ---- Reaches made of several tanks -------------------------------------------------------------------------------------------------------
+
+TANKS = table_bytes(tank_table())  # in use are places 0 to 7: five elements, two inner tanks of element 2, one of element 5
+TANK_RECORD = record_bytes(*TANK_RECORDS[0])
+TANK_NEED = 4 * 5 * 3
+MOST_TANKS = table_bytes(dict(T=60, L=12, elements=[tanks(8, first_discharge=k, first_variance=CEILING - k, W=k) for k in range(64)],
+                              gauges=[]))
+
+
+def all_entries(name, random, state, table=TANKS, record=TANK_RECORD, room=TANK_NEED):
+    """A step, a forecast and a trial from the same state."""
+    return [*both(name, random, state, table, record, room), trial_call(f"{name}, trial", random, table, record, state)]
+
+
+def tank_starts(random):
+    for table in (TANKS, MOST_TANKS):
+        yield Call("start from noise", "start", table, noise_state(random, table), side=random.randrange(2))
+        yield Call("start from noise, 1,000 places", "start", table, noise_state(random, places=1_000), side=random.randrange(2))
+
+
+def tank_numbers(random):
+    """Each of the seven numbers of each inner tank: rule 8 on the figures, none on the rains; then those of the first places not in use."""
+    state = moved_state(random, *tank_river())
+    for place in (5, 6, 7, 1, 4):
+        for which in range(7):
+            for value in (CEILING, CEILING + 1, 2 ** 32 + 1, LARGEST) if which < 4 else (3_000, 3_001, LARGEST):
+                yield from all_entries(f"number {which} of place {place} is {value}", random, with_number(state, place, which, value))
+    for place in (8, 9, 63):
+        for which in range(7):
+            value = random.choice((CEILING + 1, 2 ** 32, LARGEST))
+            name = f"number {which} of place {place}, not in use, is {value}"
+            yield from all_entries(name, random, with_number(state, place, which, value))
+
+
+def numbers_of_512_tanks(random):
+    """64 elements of 8 tanks and all 1,000 places sent: the first inner tank, the last one, and places that are not in use."""
+    state = start(MOST_TANKS, noise_state(random, places=1_000))
+    record = record_bytes((), ())
+    for place in (0, 63, 64, 70, 71, 511, 512, 999):
+        for which in (0, 3, 6):
+            given = with_number(state, place, which, CEILING + 1)
+            yield from all_entries(f"number {which} of place {place}", random, given, MOST_TANKS, record, ROOM_FOR_ALL)
+
+
+def states_of_other_tanks(random):
+    """States that a table with the same N but other tanks has moved: rule 8 takes what it takes, and the places are read by this table."""
+    elements = tank_table()["elements"]
+    rivers = {"three and two": tank_table(), "eight and two": tank_table(elements=[elements[0], elements[1] | dict(f=8), *elements[2:]]),
+              "two and three": tank_table(elements=[elements[0], elements[1] | dict(f=2), *elements[2:4], elements[4] | dict(f=3)]),
+              "none": tank_table(elements=[elements[0], reach(down=5, lag=90), *elements[2:4], reach(lag=61)])}
+    for (name, table), (other, moved_by) in product(rivers.items(), repeat=2):
+        if name != other:
+            data, zeros = table_bytes(table), start(table_bytes(moved_by), state_of(0, 0))
+            for state in (step(table_bytes(moved_by), TANK_RECORD, zeros), moved_state(random, moved_by, TANK_RECORDS)):
+                yield from all_entries(f"tanks {name}, a state of {other}", random, state, data)
+                yield Call(f"tanks {name}, started over {other}", "start", data, state)
+
+
+def tank_call(name, random, entry, count, figures, **rest):
+    """A step or a forecast of an element of so many tanks from these figures, the uppermost tank's first, below a dam that is shut."""
+    table = table_bytes(dict(T=60, L=3, elements=[dam(down=2), tanks(count, **rest)], gauges=[]))
+    *inner, last = figures
+    lent = lent_numbers(random, 4 * 2 * 4 + 1) if entry == "forecast" else ()
+    state = state_of(2, 3, [(0, 0, 0, 0), last, *inner])
+    return Call(f"{name}, {entry}", entry, table, state, record_bytes((), (), (0,)), lent, random.randrange(2))
+
+
+def old_and_new_between(random):
+    """Each figure of each tank alone: discharge and margin of the old count for the next tank, variance and its margin of the new alone."""
+    for count, which in product((2, 3, 8), range(4)):
+        for place in sorted({0, 1, count - 1}):
+            for value in (1, 2, 3, 5, 1_000_001, 10 ** 9, CEILING):
+                figures = [single(which, value if tank == place else 0) for tank in range(count)]
+                for entry in ("step", "forecast"):
+                    yield tank_call(f"{count} tanks, number {which} of tank {place + 1} is {value}", random, entry, count, figures)
+
+
+def odd_sums_between(random):
+    """Small discharges and margins of three tanks: odd sums of old and new, which are rounded down."""
+    for values in product((0, 1, 2, 3), repeat=3):
+        for which, lag in ((0, 60), (0, 200), (1, 60), (1, 200)):
+            figures = [single(which, value) for value in values]
+            yield tank_call(f"number {which} of tanks is {values}", random, random.choice(("step", "forecast")), 3, figures, lag=lag)
+
+
+def noise_between(random):
+    """W in every tank, from no variance and from some."""
+    for count, W in product((2, 5, 8), (1, 1_000, 100_000_000)):
+        for variance in (0, 7, 10 ** 9):
+            for entry in ("step", "forecast"):
+                yield tank_call(f"{count} tanks, W {W}", random, entry, count, [(5, 6, variance, 8)] * count, W=W)
+
+
+def slow_tanks(count, above=0, **rest):
+    """So many reaches drain into an element of tanks; all keep nearly all they have."""
+    slow = [reach(down=above + 1, lag=60_000) for _ in range(above)]
+    return table_bytes(SLOW | dict(elements=[*slow, tanks(count, lag=60_000, **rest)]))
+
+
+def tank_edges(watched, entry, table, figures, leads=1):
+    """Calls around the p at which the watched number of an inner tank is C and C + 1; figures(p) are the state's."""
+    lent_room = 4 * table[8] * (leads + 1)
+
+    def build(random):
+        lent = lent_numbers(random, lent_room) if entry == "forecast" else ()
+        return edge_calls(watched, lambda p: Call("", entry, table, state_of(table[8], 3, figures(p)), record_bytes((), ()), lent))
+    return build
+
+
+INNER = "inner tank's "  # before the name of a number that rule 16 judges, where it is an inner tank's
+
+
+def tank_ceiling_cases():
+    """Rule 16's numbers of inner tanks. Of the figures of an element of k tanks after r reaches that of its last is at place r and those of
+    the inner ones follow."""
+    none, full = (0, 0, 0, 0), (0, CEILING, 0, 0)
+    for entry in ("step", "forecast"):
+        for which, name in enumerate(("", " margin", " variance", " variance margin")):
+            yield f"inflow {which} of the first, {entry}", tank_edges(
+                f"{INNER}reach inflow{name}", entry, slow_tanks(2, 2), lambda p, which=which: [single(which, CEILING), single(which, p)])
+        # The tank above has a margin of C before and, by what drains in, after: half of both, and one more, passes C.
+        for count, name in ((3, INNER), (2, "")):
+            yield f"inflow margin of the second of {count}, {entry}", tank_edges(
+                f"{name}reach inflow margin", entry, slow_tanks(count, 1), lambda p: [(0, p, 0, 0), none, full])
+        for name, higher in (("first", [full, none]), ("second", [none, none, (0, CEILING - 10 ** 6, 0, 0)])):
+            yield f"margin of the {name}, {entry}", tank_edges(
+                f"{INNER}moved margin", entry, slow_tanks(3, 1), lambda p, higher=higher: [*higher, (0, p, 0, 0)])
+        for name, higher in (("first", [none]), ("second", [none, none])):
+            yield f"variance of the {name}, {entry}", tank_edges(
+                f"{INNER}moved variance", entry, slow_tanks(3, W=100_000_000), lambda p, higher=higher: [*higher, single(2, p)])
+    for leads in (2, 3, 12):
+        table = table_bytes(SLOW | dict(elements=[tanks(3, lag=60_000, W=100_000_000)], L=leads))
+        yield f"variance at lead {leads} alone", tank_edges(f"{INNER}moved variance", "forecast", table, lambda p: [none, single(2, p)],
+                                                            leads)
+
+
+def in_reaches_too(call, table):
+    """A call on a table with tanks, and the same on the table with them written out as reaches, with as much more space."""
+    written, cells = table_bytes(in_reaches(table)), cells_of(call.table)
+    state = State(len(cells), call.state.steps, [call.state.figures[place] for place in cells], [call.state.rains[place] for place in cells])
+    lent = (call.lent * 8)[:len(call.lent) // call.table[8] * len(cells)]
+    return [call, replace(call, name=f"{call.name}, in reaches", table=written, state=state, lent=lent, reaches=True)]
+
+
+def calls_in_reaches(random, table, records, state=None):
+    """Start, and by record trial, step and forecast, each on both rivers; all from one state if there is one."""
+    data, need, given = table_bytes(table), 4 * len(table["elements"]), state
+    if state is None:
+        state = noise_state(random, data)
+        yield from in_reaches_too(Call("start", "start", data, state), table)
+        state = start(data, state)
+    for record in (record_bytes(*record) for record in records):
+        yield from in_reaches_too(trial_call("trial", random, data, record, state, need), table)
+        yield from in_reaches_too(Call("step", "step", data, state, record, side=random.randrange(2)), table)
+        yield from in_reaches_too(Call("forecast", "forecast", data, state, b"", lent_numbers(random, need * (table["L"] + 1))), table)
+        try:
+            state = step(data, record, state) if given is None else state
+        except Refused:
+            pass
+
+
+def random_in_reaches(random):
+    """A drawn river, from its start and from states of any numbers."""
+    table, records = drawn_tanks(random)
+    yield from calls_in_reaches(random, table, records[:2])
+    for way in ("typical", "small", random.choice(("wild", "ceiling"))):
+        state = fitting_state(random, table_bytes(table), way)
+        if random.random() < 0.3:
+            state = with_number(state, random.randrange(tanks_and_others(table)), random.randrange(7), CEILING + random.choice((0, 1)))
+        yield from calls_in_reaches(random, table, records[:1], state)
+
+
+def tank_cases():
+    for name, build in (("starts", tank_starts), ("numbers of places", tank_numbers), ("numbers of 512 tanks", numbers_of_512_tanks),
+                        ("states of other tanks", states_of_other_tanks), ("old and new", old_and_new_between),
+                        ("odd sums", odd_sums_between), ("W", noise_between)):
+        yield name, build
+    for name, *river in (*tank_rivers(), *ceiling_of_tanks()):
+        if tanks_and_others(river[0]) <= 64:
+            yield f"{name} as in reaches", lambda random, river=river: calls_in_reaches(random, *river)
+    yield from (("random as in reaches", random_in_reaches) for _ in range(40))
 
 
 # ---- The list ----------------------------------------------------------------------------------------------------------------------------
@@ -1499,12 +1710,15 @@ def check_calls(random):
     for size in range(len(SMALL) + 1):
         yield Call(f"table cut at {size}", "check", SMALL[:size], nothing, side=random.randrange(2))
     yield Call("floats", "check", FLOATS, nothing)
-    for river, edits in ((small_river, rule_edits()), (dam_river, dam_edits()), (noise_river, noise_edits())):
+    for river, edits in ((small_river, rule_edits()), (dam_river, dam_edits()), (noise_river, noise_edits()), (tank_river, tank_edits())):
         for _, edit in edits:
             table, records = river()
             edit(table, records)
             yield Call("edited", "check", table_bytes(table), nothing)
     yield Call("64 dams", "check", ALL_DAMS, nothing)
+    yield Call("512 tanks", "check", MOST_TANKS, nothing)
+    for name, table, _ in tank_rivers():
+        yield Call(f"tanks: {name}", "check", table_bytes(table), nothing, side=random.randrange(2))
     for T in (1, 2, 255, 256, 257, 1_439, 1_440):
         yield Call(f"T {T}", "check", table_bytes(dict(T=T, L=1, elements=[basin(lag=1_440)], gauges=[])), nothing)
 
@@ -1525,6 +1739,7 @@ def ceiling_cases():
         yield f"variance at lead {leads} alone", variance_edges("forecast", "reach", leads)
         yield f"variance of a basin at lead {leads} alone", variance_edges("forecast", "basin", leads)
         yield f"inflow variance at lead {leads} alone", late_inflow_edges(leads)
+    yield from ((f"tanks, {name}", build) for name, build in tank_ceiling_cases())
     yield "margin of a correction", correction_edges
     yield "noise", noise_ceiling
     yield "rain", rain_edges
@@ -1566,4 +1781,8 @@ def cases():
         found.append(Case(f"noise: {name}, run", steps_of(table, records), exact=True))
     found += [Case(f"show: {name}", build) for name, build in show_cases()]
     found += [Case(f"storm: {name}", calls_of_storms(*pair)) for name, *pair in storms()]
+    found += [Case(f"rule {rule}", edited_calls(edit, tank_river)) for rule, edit in tank_edits()]
+    found += [Case(f"tanks: {name}", build) for name, build in tank_cases()]
+    for name, *river in tank_rivers():
+        found.append(Case(f"tanks: {name}, run", lambda random, river=river: run_of(random, *river), exact=True))
     return found

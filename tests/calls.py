@@ -5,12 +5,14 @@
     python3 tests/calls.py [--seed S] [--only K] [library]
 
 The library is target/staticlib/libriver.a unless another path is given; tests/calls.c is linked with it (gcc) and makes the calls. Compared
-are the refusal, all 450 numbers of the lent state, the count and all lent numbers, what a rate answers, or the bits of what a display gets,
-and whether the host's own memory stayed as it was.
+are the refusal, all 7,002 numbers of the lent state, the count and all lent numbers, what a rate answers, or the bits of what a display
+gets, and whether the host's own memory stayed as it was. A call's state has as many places as the case needs; all others, up to 1,000, the
+driver fills itself, and no call may read or change them.
 Some neighbouring calls are held against each other too, whatever the calculator says: a trial against the step that follows it, two trials
 that differ in one gauge's reading, two calls with the same readings in records of either version, two with the same numbers in tables of
-either version, and two of storms, the second with more rain. Runs from a start are judged by the run in fractions too. The last line is
-"calls: N calls in M cases, F failed"; the exit code is 0 only where none failed. A failed case can be made again by its seed and number.
+either version, two of storms, the second with more rain, and two on a river with tanks and on the same river in reaches. Runs from a start
+are judged by the run in fractions too. The last line is "calls: N calls in M cases, F failed"; the exit code is 0 only where none failed. A
+failed case can be made again by its seed and number.
 """
 import argparse
 import subprocess
@@ -25,11 +27,12 @@ from calculator import floats
 from calculator.fractions_run import ExactNumbers, EnclosedNumbers, FractionsRun
 from calculator.whole_numbers import GAUGE_BYTES, RULES, Refused
 from inputs import random_for
+from judge import cells_of, tank_counts
 
 ROOT = Path(__file__).resolve().parent.parent
 ENTRIES = {"start": 1, "step": 2, "forecast": 3, "check": 4, "version": 5, "rate": 6, "trial": 7, "show": 8}
-VERSION = 5  # of the interface
-NOTHING = {"check": 8, "rate": 3, "show": 2}  # numbers of an answer that are all 0 where the call is refused
+VERSION = 6  # of the interface
+NOTHING = {"check": 10, "rate": 3, "show": 2}  # numbers of an answer that are all 0 where the call is refused
 MOST_SHOWN = 20  # failed cases that are told of
 TIME_LIMIT = 60  # seconds for all calls
 
@@ -39,7 +42,7 @@ class Reply:
     refusal: int
     count: int  # numbers written by a forecast or a trial
     kept: int  # 1: all that the host keeps stayed as it was
-    numbers: array  # the state's afterwards, all lent, the plan's, the versions, discharge, noise and pieces, or the bits of two floats
+    numbers: array  # what was sent of the state, all lent, the plan's, the versions, discharge, noise and pieces, or the bits of two floats
 
 
 def state_numbers(state):
@@ -86,8 +89,8 @@ class Library:
     def check(self, call):
         table = self.rules.table(call.table)
         count, leads, gauges, basins, dams = len(table.elements), table.leads, len(table.gauges), table.basins, table.dams
-        return Reply(0, 0, 1, array("Q", (count, leads, gauges, basins, dams, 3 + 2 * basins + 4 * dams + 2 * gauges,
-                                          4 * count * (leads + 1), table.step_minutes)))
+        return Reply(0, 0, 1, array("Q", (count, leads, gauges, basins, dams, table.places - count, table.places,
+                                          3 + 2 * basins + 4 * dams + 2 * gauges, 4 * count * (leads + 1), table.step_minutes)))
 
     def version(self, call):
         return Reply(0, 0, 1, array("Q", (VERSION, VERSION)))
@@ -112,7 +115,8 @@ def built_driver(library):
 
 
 def call_bytes(call):
-    head = array("Q", (ENTRIES[call.entry], call.side, len(call.table), len(call.record), len(call.lent), *call.asked))
+    head = array("Q", (ENTRIES[call.entry], call.side, len(call.table), len(call.record), len(call.lent), *call.asked,
+                       len(call.state.figures)))
     return head.tobytes() + call.table + call.record + state_numbers(call.state).tobytes() + array("Q", call.lent).tobytes()
 
 
@@ -183,7 +187,7 @@ def handed_out(call, reply, run):
 
 def exact_complaint(calls, replies):
     """The first figure of a run from a start that is not within its margin of the run in fractions, and how many were compared."""
-    numbers = ExactNumbers() if calls[0].table[8] <= 4 else EnclosedNumbers()
+    numbers = ExactNumbers() if sum(tank_counts(calls[0].table)) <= 4 else EnclosedNumbers()
     run, compared = FractionsRun(calls[0].table, numbers), 0
     for place, (call, reply) in enumerate(zip(calls, replies)):
         if reply.refusal:
@@ -240,6 +244,22 @@ def storm_complaint(one, reply, other, next_reply):
                  for at, (less, more) in enumerate(rows) if more[0] < less[0] or more[2] != less[2]), None)
 
 
+def reaches_complaint(one, reply, other, next_reply):
+    """M-107: of two calls, on a river with tanks and on the same river in reaches, what each tank has is what its reach has, and what is
+    handed out of an element is what is handed out of its last reach."""
+    if reply.refusal != next_reply.refusal:
+        return f"refusal {reply.refusal}, in reaches {next_reply.refusal}"
+    cells = cells_of(one.table)
+    if one.entry in ("start", "step"):
+        if reply.numbers[1] != next_reply.numbers[1]:
+            return "another step count than in reaches"
+        return next((f"place {place} is not as in reaches" for at, place in enumerate(cells)
+                     if reply.numbers[2 + 7 * place:9 + 7 * place] != next_reply.numbers[2 + 7 * at:9 + 7 * at]), None)
+    size = 0 if reply.refusal else reply.count // one.table[8]  # numbers of an element
+    return next((f"element {place + 1} is not as in reaches" for at, place in enumerate(cells) if place < one.table[8]
+                 and reply.numbers[size * place:size * (place + 1)] != next_reply.numbers[size * at:size * (at + 1)]), None)
+
+
 def neighbour_complaints(calls, replies):
     """What neighbouring calls on one table say against each other, by place of the second; None where nothing."""
     for place in range(1, len(calls)):
@@ -248,6 +268,8 @@ def neighbour_complaints(calls, replies):
             yield place, None if reply == next_reply else "the same readings or table in the other version are answered otherwise"
         if other.wetter and not (reply.refusal or next_reply.refusal):
             yield place, storm_complaint(one, reply, other, next_reply)
+        if other.reaches:
+            yield place, reaches_complaint(one, reply, other, next_reply)
         if one.entry != "trial" or one.table != other.table or one.state is not other.state:
             continue
         if other.entry == "step" and one.record == other.record:

@@ -2,7 +2,8 @@
 """Tries the built program on generated inputs and judges every output by judge.py; where an input has a twin, the same readings in records
 of version 1 or the same numbers in a table of version 1, the program must print the same for both, whatever the calculator says. So with
 the floats around every half millimetre, too many to be worked out here: the calculator gives their millimetres alone. Where an input has a
-wetter one, a second storm with more rain, no discharge may be less there and the variances must be equal.
+wetter one, a second storm with more rain, no discharge may be less there and the variances must be equal. Where it has one in reaches, the
+same river with its tanks written out as reaches, the program must print the same for each element's last tank.
 
     python3 tests/generated.py [--long] [--seed S] [--only K] [program]
 
@@ -19,13 +20,14 @@ from pathlib import Path
 
 from calculator import program, tried_figures
 from inputs import every_half_millimetre, inputs, random_for
-from judge import compared_storms, judge, judged, rain_complaint, version_complaint
+from judge import compared_reaches, compared_storms, judge, judged, rain_complaint, reaches_complaint, version_complaint
 
 ROOT = Path(__file__).resolve().parent.parent
 TIME_LIMIT = 120  # seconds for one input
 MOST_SHOWN = 20  # failing inputs that are written out
 # Fewer than these compared is a failure.
 LEAST_STORMS = {"accepted whole": 180, "lines": 7_000, "larger discharges": 4_000, "forecasts on one side": 1}
+LEAST_REACHES = {"rivers": 100, "lines": 3_500, "refusals": 30}
 
 
 class Crashed(Exception):
@@ -63,34 +65,37 @@ def calculator_program(data, pieces=0):
 
 
 def pair_complaints(under_test, given, seed, number, data, output):
-    """What the outputs for an input and its twin, or its wetter one, say against each other."""
+    """What the outputs for an input and its twin, its wetter one, or the one in reaches, say against each other."""
     found = {}
     if given.twin:
         found |= version_complaint(output, under_test(given.twin(random_for(seed, number))))
     if given.wetter:
         wetter = given.wetter(random_for(seed, number))
         found |= rain_complaint(data, output, wetter, under_test(wetter), given.larger)
+    if given.reaches:
+        found |= reaches_complaint(data, output, under_test(given.reaches(random_for(seed, number))))
     return found
 
 
 def tell(options, number, given, data, found):
-    """Of a failing input: what is wrong, and its bytes, of two storms the second's too."""
+    """Of a failing input: what is wrong, and its bytes, and those of the second storm or of the river in reaches."""
     failures = Path(ROOT / "target/generated")
     failures.mkdir(parents=True, exist_ok=True)
     place = failures / f"{'long' if options.long else 'quick'}-{options.seed}-{number}.bin"
     place.write_bytes(data)
-    if given.wetter:
-        place.with_suffix(".wetter.bin").write_bytes(given.wetter(random_for(options.seed, number)))
+    for name, build in (("wetter", given.wetter), ("reaches", given.reaches)):
+        if build:
+            place.with_suffix(f".{name}.bin").write_bytes(build(random_for(options.seed, number)))
     again = f"--seed {options.seed} --only {number}" + (" --long" if options.long else "")
     print(f"FAILED {again} ({given.family}), {len(data)} bytes in {place}")
     for check, complaint in found.items():
         print(f"  {check}: {complaint}")
 
 
-def few_storms():
-    """Tells how many storms were compared, and whether these are too few."""
-    few = any(compared_storms[name] < least for name, least in LEAST_STORMS.items())
-    print("pairs of storms: " + ", ".join(f"{count} {name}" for name, count in compared_storms.items()) + (", TOO FEW" if few else ""))
+def few_compared(words, compared, least):
+    """Tells how many pairs were compared, and whether these are too few."""
+    few = any(compared[name] < count for name, count in least.items())
+    print(f"{words}: " + ", ".join(f"{count} {name}" for name, count in compared.items()) + (", TOO FEW" if few else ""))
     return few
 
 
@@ -127,7 +132,8 @@ def main():
     if options.only is None:
         complaint = version_complaint(*map(under_test, every_half_millimetre()))
         print(f"every half millimetre: {complaint.get('versions', 'as in version 1')}")
-        failed += bool(complaint) + few_storms()
+        failed += bool(complaint) + few_compared("pairs of storms", compared_storms, LEAST_STORMS)
+        failed += few_compared("tanks beside reaches", compared_reaches, LEAST_REACHES)
     print("inputs by refusal: " + ", ".join(f"{number}: {count}" for number, count in sorted(refusals.items())))
     print("figures compared: " + ", ".join(f"{count} {way}" for way, count in judged.items()))
     print(f"{time.process_time() - started:.0f} s in this process", file=sys.stderr)

@@ -1,4 +1,5 @@
-"""The inputs that the program is tried on, each built from a seed and its number, so that any one can be made again by itself.
+"""The inputs that the program is tried on, each built from a seed and its number, so that any one can be made again by itself. Some have a
+second one beside them: the same numbers in another version, more rain (M-106), or a river's tanks written out as reaches (M-107).
 
 inputs(seed, long) lists them; nothing is built before it is asked for.
 """
@@ -26,6 +27,7 @@ class Input:
     twin: Callable = None  # as build, with the same numbers in records or in a table of version 1; the outputs must be equal
     wetter: Callable = None  # as build, with at least these rains and all else equal: at least as much water, equal variances (M-106)
     larger: bool = False  # whether some discharge of wetter must be larger
+    reaches: Callable = None  # as build, with each element of tanks written out as reaches: equal lines of its last tank (M-107)
 
 
 # ---- Rivers --------------------------------------------------------------------------------------------------------------------------
@@ -41,6 +43,10 @@ def reach(down=0, lag=60, **rest):
 
 def dam(down=0, **rest):
     return dict(kind=3, down=down, **rest)
+
+
+def tanks(count, down=0, lag=60, **rest):
+    return dict(kind=4, down=down, lag=lag, f=count, **rest)
 
 
 def gauge(element, R=200, pieces=((30_001, 20_000, -500),), **rest):
@@ -71,6 +77,19 @@ def dam_table(**changes):
 DAM_RECORDS = [((100, 0), (1_500,), (3_000_000, 0)), ((35, 3_000), (GAP,), (0, CEILING)), ((0, 10), (1_499,), (70_000_000, 12))]
 
 
+def tank_table(**changes):
+    """Tanks that drain into tanks, both gauged, two basins and a dam above them: all that M-107 brings to rules 5 to 16."""
+    return dict(T=60, L=2, elements=[
+        basin(down=2, first_discharge=1_000_000, first_variance=300, W=10, G=1_000),
+        tanks(3, down=5, lag=90, first_discharge=2_000_000, first_variance=400, W=50),
+        basin(down=5, lag=90, area=900, f=500, W=7, G=50), dam(down=5, first_discharge=5_000_000, first_variance=700, W=30),
+        tanks(2, lag=61, first_discharge=7_000_000, first_variance=60, W=3)],
+        gauges=[gauge(2), gauge(5, R=5_000, pieces=[(1_000, 30_000, 0), (2_000, 20_000, 300), (30_001, 100, 30_000)])]) | changes
+
+
+TANK_RECORDS = [((100, 0), (1_500, GAP), (3_000_000,)), ((35, 3_000), (GAP, 999), (0,)), ((0, 10), (1_499, 1_000), (70_000_000,))]
+
+
 def bits_near(metres, less=1, more=1):
     """The bits of the float nearest to so many metres, with as many floats below it and above it."""
     nearest = float_bits(metres)
@@ -93,6 +112,10 @@ def small_river():
 
 def dam_river():
     return dam_table(), list(DAM_RECORDS)
+
+
+def tank_river():
+    return tank_table(), list(TANK_RECORDS)
 
 
 def float_river():
@@ -124,9 +147,10 @@ def some_lag(random, step_minutes, way):
 
 
 def river_kinds(random, shape, count):
-    """In one river of three some elements are dams."""
-    dams = random.choice((0, 0, 0.3))
-    return [3 if random.random() < dams else kind for kind in basins_and_reaches(random, shape, count)]
+    """In one river of three some elements are dams, in one of three some reaches are made of tanks."""
+    dams, of_tanks = random.choice((0, 0, 0.3)), random.choice((0, 0, 0.5))
+    kinds = [3 if random.random() < dams else kind for kind in basins_and_reaches(random, shape, count)]
+    return [4 if kind == 2 and random.random() < of_tanks else kind for kind in kinds]
 
 
 def basins_and_reaches(random, shape, count):
@@ -201,6 +225,8 @@ def some_table(random, count, shape, way, leads=None, gauge_count=None, version=
         element = dict(kind=kind, down=river_down(random, shape, kinds, number))
         if kind != 3:
             element |= dict(lag=some_lag(random, step_minutes, lags))
+        if kind == 4:
+            element |= dict(f=random.randint(2, 8))
         if way == "typical":
             element |= dict(first_discharge=random.randint(0, CEILING // (2 * count)),
                             first_variance=random.randint(0, 10_000_000 // count), W=random.randint(0, 500_000))
@@ -341,7 +367,7 @@ def rule_edits():
     add(3, *(with_head(M=M) for M in (0, 1, 2, 3, 16, 17, 255)))
     add(4, with_head(N=4, M=1), with_head(N=5, M=2), with_head(N=3, M=2), with_head(N=4, M=3))
     for place in (0, 1, 2, 3):
-        add(5, *(with_element(place, kind=kind) for kind in (0, 1, 2, 3, 255)))
+        add(5, *(with_element(place, kind=kind) for kind in (0, 1, 2, 3, 4, 5, 255)))
         add(5, *(with_element(place, lag=lag) for lag in (0, 59, 60, 60_000, 60_001, 65_535)))
         for name in ("first_discharge", "first_variance"):
             add(5, *(with_element(place, **{name: value}) for value in (0, CEILING, CEILING + 1, 2 ** 32 - 1)))
@@ -401,6 +427,35 @@ def dam_edits():
             add(17, with_record(which, releases=(release, 0)), with_record(which, releases=(0, release)))
     add(13, *(with_record(0, stages=(stage,)) for stage in (30_001, 65_534)))
     add(14, *(with_record(0, stages=(stage,)) for stage in (499, 14_643)))
+    return edits
+
+
+def tank_edits():
+    """The same of the river with tanks: what M-107 brings."""
+    edits = []
+
+    def add(rule, *more):
+        edits.extend((rule, edit) for edit in more)
+
+    for place in (1, 4):
+        add(5, *(with_element(place, f=count) for count in (0, 1, 2, 7, 8, 9, 10, 255, 256, 258, 1_000, 65_535)))
+        add(5, *(with_element(place, **{name: value}) for name in ("area", "G") for value in (1, 400_000)))
+        add(5, *(with_element(place, lag=lag) for lag in (0, 30, 59, 60, 60_000, 60_001)))
+        add(5, *(with_element(place, kind=kind) for kind in (0, 1, 2, 3, 5, 8)))
+        add(5, *(with_element(place, kind=2, f=0), with_element(place, kind=2, f=2)))
+        for name in ("first_discharge", "first_variance"):
+            add(5, *(with_element(place, **{name: value}) for value in (CEILING, CEILING + 1)))
+        add(5, *(with_element(place, W=W) for W in (0, 100_000_000, 100_000_001)))
+    add(5, with_element(0, kind=4, f=3), with_element(0, kind=4, f=3, area=0), with_element(0, kind=4, f=3, area=0, G=0))
+    for place, downs in ((0, (0, 3, 4, 5)), (1, (0, 1, 2, 3, 4, 6)), (3, (0, 2, 3)), (4, (2, 4, 5))):
+        add(6, *(with_element(place, down=down) for down in downs))
+    add(7, *(with_gauge(0, element=element) for element in (1, 3, 4, 5, 6)), *(with_gauge(1, element=element) for element in (2, 3, 4, 6)))
+    add(10, *(with_record(0, length=length) for length in (11, 12, 14, 15)), with_record(0, rains=(1, 2, 3)), with_record(0, rains=(1,)),
+        with_record(0, stages=(GAP,) * 3), with_record(0, stages=(GAP,)), with_record(0, releases=()))
+    add(12, *(with_record(0, rains=rains) for rains in ((3_001, 0), (0, 3_001))))
+    add(17, with_record(0, releases=(CEILING + 1,)))
+    add(13, *(with_record(0, stages=stages) for stages in ((30_001, GAP), (GAP, 65_534))))
+    add(14, *(with_record(0, stages=(stage, GAP)) for stage in (499, 14_643)))
     return edits
 
 
@@ -466,8 +521,10 @@ def edited(edits, river=small_river):
 
 def several_edits(random):
     """Two to four edits at once, of the table and the records or of the records alone: the first number in checking order that applies."""
-    lowest, river = random.choice((1, 5, 10, 10)), random.choice((small_river, small_river, dam_river, float_river, noise_river))
-    edits = {small_river: rule_edits, dam_river: dam_edits, float_river: float_edits, noise_river: noise_edits}[river]()
+    lowest = random.choice((1, 5, 10, 10))
+    river = random.choice((small_river, small_river, dam_river, float_river, noise_river, tank_river))
+    edits = {small_river: rule_edits, dam_river: dam_edits, float_river: float_edits, noise_river: noise_edits,
+             tank_river: tank_edits}[river]()
     edits = [(rule, edit) for rule, edit in edits if rule >= lowest]
     rules = sorted({rule for rule, _ in edits})
     rules = random.sample(rules, min(len(rules), random.choice((2, 2, 3, 4))))
@@ -552,6 +609,8 @@ def last_places():
 
     five = [(top, 1, -500) for top in (1, 2, 3, 4, 30_001)]
     yield "5, lag 60 and 59 of element 64", river(), river(element=dict(lag=59))
+    yield "5, 8 and 9 tanks of element 64", *(river(element=dict(kind=4, f=count)) for count in (8, 9))
+    yield "5, 2 tanks and 1 of element 64", *(river(element=dict(kind=4, f=count)) for count in (2, 1))
     yield "6, down 64 and 63 of element 63", river(), river(above=dict(down=63))
     yield "7, R 1 and 0 of gauge 16", river(last_gauge=dict(R=1)), river(last_gauge=dict(R=0))
     yield "7, gauge 16 after gauge 15 and at its element", river(), river(last_gauge=dict(element=63))
@@ -749,6 +808,130 @@ def mean_inflow_rivers():
     chain = [basin(down=2, first_discharge=10 ** 9)] + [reach(down=(k + 1) * (k < 6), lag=60 * k, first_discharge=10 ** 8 * k, W=k)
                                                         for k in range(2, 7)]
     yield "chain of six", *river(chain, *(((rain,), ()) for rain in (3_000, 0, 0, 1_001, 0)), L=12)
+
+
+# ---- Reaches made of several tanks -------------------------------------------------------------------------------------------------------
+
+
+def in_reaches(table):
+    """The same river without tanks: each element of them is written out as reaches, one for each tank, all that drains into it into the
+    first of them and its gauge on the last."""
+    first, last, written = {0: 0}, {}, []
+    for number, element in enumerate(table["elements"], 1):
+        count = element["f"] if element["kind"] == 4 else 1
+        first[number], last[number] = len(written) + 1, len(written) + count
+        element = element | (dict(kind=2, f=0) if element["kind"] == 4 else {})
+        written += [element | dict(inner=True) for _ in range(count - 1)] + [element]
+    for number, element in enumerate(written, 1):
+        element["down"] = number + 1 if element.pop("inner", False) else first[element["down"]]
+    return table | dict(elements=written, gauges=[each | dict(element=last[each["element"]]) for each in table["gauges"]])
+
+
+def tanks_and_others(table):
+    """How many places a river has in use: its elements and all their inner tanks."""
+    return sum(element["f"] if element["kind"] == 4 else 1 for element in table["elements"])
+
+
+def tank_rivers():
+    """(name, table, records): how many tanks, what drains into them and where they drain, and gauges on them and about them."""
+    def river(elements, *records, gauges=(), **rest):
+        return dict(T=60, L=3, elements=elements, gauges=list(gauges)) | rest, list(records)
+
+    def water(**rest):
+        return dict(first_discharge=70_000_000, first_variance=900, W=40) | rest
+
+    def wave(*stages):
+        return [((rain,), stages) for rain in (3_000, 500, 0, 0)]
+
+    yield "tanks into tanks", *tank_river()
+    for count in range(2, 9):
+        yield f"{count} tanks", *river([basin(down=2, area=3_000, G=500), tanks(count, lag=55 + 5 * count, **water())], *wave(),
+                                       L=count + 1)
+        yield f"{count} tanks, gauged", *river([basin(down=2, area=3_000, G=500), tanks(count, **water(W=5_000 * count))], *wave(2_000),
+                                               gauges=[gauge(2)], L=2, version=count % 2 + 1)
+    yield "alone", *river([tanks(4, lag=90, **water())], *[((), ())] * 5, L=12)
+    yield "alone, C before", *river([tanks(8, first_discharge=CEILING, first_variance=CEILING)], *[((), ())] * 4, L=12)
+    yield "alone, no water", *river([tanks(8)], *[((), ())] * 3, L=1)
+    yield "alone, gauged", *river([tanks(5, lag=75, **water(W=900))], *(((), (stage,)) for stage in (1_500, GAP, 501, 2_000)),
+                                  gauges=[gauge(1)])
+    yield "slowest", *river([basin(down=2), tanks(8, lag=60_000, **water())], *wave(), T=1)
+    yield "of small water", *river([dam(down=2), tanks(3, first_discharge=2)], *(((), (), (release,)) for release in (1, 0, 5, 6, 5, 0, 3, 2)))
+    counts = range(2, 9)
+    chain = [basin(down=2, **water(G=700))] + [tanks(count, down=count + 1, lag=60 + 11 * count, **water(W=count)) for count in counts]
+    yield "chain of tanks", *river([*chain, reach(lag=90)], *wave(), L=12)
+    yield "chain of gauged tanks", *river([*chain, tanks(3)], *wave(*[900 + 100 * k for k in range(7)]), *wave(*[GAP, 800] * 3, GAP),
+                                          gauges=[gauge(number, R=50 * number) for number in counts], version=2)
+    joined = [basin(down=6, **water()), reach(down=6, **water()), dam(down=6, **water()), tanks(2, down=6, **water()),
+              basin(down=6, lag=120, **water(G=9_000)), tanks(5, down=8, **water()), basin(down=8, **water()), tanks(3, **water())]
+    yield "five into tanks", *river(joined, *(((rain, 90, 3), (), (10 ** 7 * rain,)) for rain in (1, 40, 0, 7)))
+    yield "five into gauged tanks", *river(joined, *(((rain, 90, 3), (stage, GAP), (10 ** 7,)) for rain, stage in (
+        (1, 900), (40, GAP), (0, 3_000))), gauges=[gauge(6, R=9), gauge(8)])
+    dams = [dam(down=2, **water()), tanks(4, down=3, **water()), dam(down=4, **water()), tanks(2, **water(W=7))]
+    yield "between dams", *river(dams, *(((), (), row) for row in ((0, CEILING), (CEILING, 0), (3, 10 ** 9), (10 ** 9, 5))))
+    between = [basin(down=2, **water()), reach(down=3, **water()), tanks(6, down=4, **water()), reach(**water())]
+    yield "gauge above and below", *river(between, *wave(1_400, 1_700), gauges=[gauge(2), gauge(4, R=9)])
+    yield "beta on tanks", *river([basin(down=2), tanks(3, **water(W=90_000))], *wave(2_000), gauges=[gauge(2, R=100, beta=300)], version=2)
+    yield "floats on tanks", tank_table(), list(map(in_floats, TANK_RECORDS))
+
+
+def largest_tanks():
+    """(name, table, records): 64 elements of 8 tanks, which no table of reaches has room for."""
+    def element(number, down):
+        return tanks(8, down=down, lag=60 + number, first_discharge=10 ** 6 * number, first_variance=number, W=number)
+
+    gauges = [gauge(number) for number in range(4, 65, 4)]
+    stages = [900 + 10 * number for number in range(16)]
+    down_the_river = [element(number, (number + 1) * (number < 64)) for number in range(1, 65)]
+    yield "64 of 8, one after the other", dict(T=60, L=2, elements=down_the_river, gauges=gauges), [((), stages), ((), (GAP,) * 16)]
+    apart = [element(number, 64 * (number < 64)) for number in range(1, 65)]
+    yield "64 of 8, all into the last, 12 leads", dict(version=2, T=60, L=12, elements=apart, gauges=gauges[:1]), [((), (GAP,))]
+
+
+def ceiling_of_tanks():
+    """(name, table, records): what passes C at the first tank alone, at a step and at a lead; each exactly and just off."""
+    def river(elements, *records, gauges=(), **rest):
+        return dict(T=60, L=1, elements=elements, gauges=list(gauges)) | rest, list(records)
+
+    half = CEILING // 2
+    for more in (0, 1):
+        # Half the sum of 0 and the releases at the step; at the leads the releases are held.
+        yield f"inflow of a lead is C + {more}", *river([dam(down=3), dam(down=3), tanks(2)], ((), (), (half, half + more)),
+                                                        ((), (), (0, 0)))
+        yield f"inflow of a step is C + {more}", *river([dam(down=3), dam(down=3), tanks(3)], ((), (), (CEILING, 0)),
+                                                        ((), (), (CEILING, 2 * more)), ((), (), (0, 0)))
+        count = 40 + more
+        dams = [dam(down=count + 1, W=100_000_000) for _ in range(count)]
+        yield f"inflow variance of {count} dams", *river([*dams, tanks(8)], ((), (), (1,) * count))
+    for count in (4, 20, 40, 63):
+        rainy = [basin(down=count + 1, area=1, G=100_000_000) for _ in range(count)]
+        yield f"lead variance of {count} basins", *river([*rainy, tanks(4)], *[((1,) * count, ())] * 2, L=12)
+    stages = [gauge(number, R=1, pieces=[(30_001, 1_000_000, 0)]) for number in (1, 2)]
+    for stage in (1_400, 1_710, 1_711, 1_999):
+        yield f"inflow margin by stages of {stage}", *river([reach(down=3), reach(down=3), tanks(2, down=4), reach()], ((), (stage, stage)),
+                                                            ((), (GAP, GAP)), gauges=stages, L=2)
+    # Each tank adds a little of the variance above it: the first is C less so much after a step, and the others pass C or not.
+    H, first = weight_of(60, 6_000), CEILING - 10 ** 7
+    for less in (-1, 0, 300_000, 500_000, 5_000_000):
+        W = CEILING - H * (H * first // 10 ** 9) // 10 ** 9 - less
+        yield f"variance of C {-less:+} in the first", *river([tanks(6, lag=6_000, first_variance=first, W=W)], *[((), ())] * 3, L=3)
+
+
+def drawn_tanks(random, most=64):
+    """A river with at least one element of tanks that fits into so many reaches."""
+    while True:
+        way, shape = random.choice(WAYS), random.choice(SHAPES)
+        table = some_table(random, random.choice((1, 2, 3, 4, 5, 8)), shape, way, leads=random.choice((1, 1, 2, 3, random.randint(1, 12))))
+        if count_of(table, 4) and tanks_and_others(table) <= most:
+            return table, some_records(random, table, random.choice((1, 2, 3, 5)), way)
+
+
+def tanks_drawn(random):
+    return whole_input(*drawn_tanks(random))
+
+
+def drawn_in_reaches(random):
+    table, records = drawn_tanks(random)
+    return whole_input(in_reaches(table), records)
 
 
 # ---- Curves of five pieces -------------------------------------------------------------------------------------------------------------
@@ -1102,6 +1285,20 @@ def storms_at_gauges():
     yield "no variance", one_basin(first_variance=0, W=0, gauges=[given]), rained(5, 5, stages=(2_000,)), [(6,), (3_000,)]
 
 
+def storms_at_tanks():
+    """(name, table, records, the second storm's rains): what tanks make of two storms, with gauges on them and without."""
+    for count in (2, 8):
+        table = dict(T=60, L=12, elements=[basin(down=2, G=700), tanks(count, W=900)], gauges=[])
+        yield f"{count} tanks", table, rained(90, 0, 0, 0), [(91,), (0,), (0,), (HIGHEST_RAIN,)]
+        gauged = dict(table, gauges=[gauge(2, R=9)])
+        yield f"{count} tanks, gauged", gauged, rained(90, 0, 0, stages=(1_500,)), [(HIGHEST_RAIN,), (0,), (1,)]
+    large = dict(T=60, L=2, elements=[basin(down=2, area=400_000), tanks(2)], gauges=[])
+    yield "sum between tanks past 2 ** 32", large, rained(20, 20, 20, 20), [(36,)] * 4
+    chain = [basin(down=2)] + [tanks(4, down=(number + 1) * (number < 9), lag=60 + number) for number in range(2, 10)]
+    yield "chain of tanks", dict(T=60, L=4, elements=chain, gauges=[gauge(5, R=9)]), rained(90, 30, 0, stages=(900,)), [
+        (HIGHEST_RAIN,), (HIGHEST_RAIN,), (1,)]
+
+
 def storms():
     """(name, table, records, the second storm's rains), all accepted whole and with some larger discharge."""
     yield "one basin, one step", one_basin(leads=1), rained(100), [(101,)]
@@ -1117,12 +1314,14 @@ def storms():
     yield "forecast of the second refused by 16", basin_and_reach(2, area=400_000), [((20, 20), ()), ((0, 0), ()), ((0, 1), ())], [
         (36, 36), (0, 0), (0, 2)]
     yield from storms_at_gauges()
-    for name, (table, records) in (("small table", small_river()), ("dams", dam_river()), ("beta in the network", noise_river())):
+    for name, (table, records) in (("small table", small_river()), ("dams", dam_river()), ("beta in the network", noise_river()),
+                                   ("tanks", tank_river())):
         basins = count_of(table, 1)
         yield f"{name}, a little more", table, records, [[min(HIGHEST_RAIN, rain + 1) for rain in record[0]] for record in records]
         yield f"{name}, the highest", table, records, [(HIGHEST_RAIN,) * basins for _ in records]
     yield "confluence of five", basin_and_reach(5, area=700), [((k, 0, 9, 300, 7), ()) for k in range(4)], [
         (k, 1, 9, 300, HIGHEST_RAIN) for k in range(4)]
+    yield from storms_at_tanks()
     long_river = [basin(down=2)] + [reach(down=(number + 1) * (number < 64), lag=60 + number) for number in range(2, 65)]
     yield "river of 64", dict(T=60, L=2, elements=long_river, gauges=[gauge(20, R=9), gauge(40)]), [
         ((90,), stages) for stages in ((GAP, 900), (700, GAP), (GAP, GAP))], [(HIGHEST_RAIN,), (90,), (91,)]
@@ -1140,6 +1339,8 @@ def storm_table(random):
                        W=some_variance * random.choice((0, 9, random.randint(0, 500_000))))
         if kind != 3:
             element |= dict(lag=some_lag(random, step_minutes, lags))
+        if kind == 4:
+            element |= dict(f=random.randint(2, 8))
         if kind == 1:
             element |= dict(area=random.randint(1, 3_000 // count), f=random.choice((1_000, random.randint(1, 1_000))),
                             G=random.choice((0, random.randint(0, 1_000_000))))
@@ -1356,6 +1557,8 @@ def inputs(long=False):
         add(f"rule {rule}", lambda random, edit=edit: edited([edit]))
     for rule, edit in dam_edits():
         add(f"rule {rule}", lambda random, edit=edit: edited([edit], dam_river))
+    for rule, edit in tank_edits():
+        add(f"rule {rule}", lambda random, edit=edit: edited([edit], tank_river))
     for _ in range(2_000 if long else 120):
         add("several rules", several_edits)
     two = two_element_input()
@@ -1429,6 +1632,7 @@ def inputs(long=False):
     add_floats(add, long)
     add_noises(add, long)
     add_storms(add, long)
+    add_tanks(add, long)
     return found
 
 
@@ -1483,6 +1687,20 @@ def add_storms(add, long):
         for _ in range(400 if long else 40):
             build, wetter = (lambda random, increase=increase, which=which: drawn_storms(random, increase)[which] for which in (0, 1))
             add(f"storm: drawn, {name}", build, fractions=False, wetter=wetter)
+
+
+def add_tanks(add, long):
+    for name, table, records in (*tank_rivers(), *ceiling_of_tanks()):
+        written = whole_input(in_reaches(table), records) if tanks_and_others(table) <= 64 else None
+        add(f"tanks: {name}", fixed(whole_input(table, records)), reaches=written and fixed(written))
+    for name, table, records in largest_tanks():
+        add(f"tanks: {name}", fixed(whole_input(table, records)))
+    for _ in range(2_000 if long else 60):
+        add("tanks: drawn", tanks_drawn, reaches=drawn_in_reaches)
+    data, end = edited([], tank_river), len(table_bytes(tank_table()))
+    for at in range(10, end) if long else [*range(36, 62, 3), *range(114, 140, 3), 44, 45, 122, 123]:
+        for value in spoiled_values(data[at])[:None if long or at in (44, 45, 122, 123) else 1]:
+            add(f"tank river spoiled at {at} by {value}", fixed(spoiled(data, at, value)))
 
 
 def random_for(seed, number):

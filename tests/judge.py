@@ -4,12 +4,13 @@
   form       the output has document 01's lines: figures by element and lead, refusals, in the order of the records
   fractions  each printed discharge and variance is within its margin of the run in fractions ("The run in fractions")
   limit      where no reading has come in at or above an element, its discharge margin is at most 16 x n x c,
-             n being step count plus lead and c the count of elements at or above
+             n being step count plus lead and c the count of elements at or above, of which every tank counts (M-107)
 
 form, fractions and limit look at the program's own lines and at the input, never at the whole-number calculator. A fifth check, versions,
 looks at two outputs: the same readings in records of either version print the same lines (M-104), and so do the same numbers in a table of
 either version, β being 0 (M-105). A sixth, rain, looks at the outputs of two storms, the second with at least the rain of the first
-(M-106).
+(M-106). A seventh, reaches, looks at the outputs for a river with tanks and for the same river with all tanks written out as reaches: the
+lines of each element's last tank are the same (M-107).
 """
 import re
 from itertools import takewhile
@@ -19,12 +20,13 @@ from calculator.program import cut_records, cut_table
 
 FIGURE_LINE = re.compile(rb"(0|[1-9][0-9]*)(?: (?:0|[1-9][0-9]*)){6}")
 REFUSAL_LINE = re.compile(rb"(0|[1-9][0-9]*) refused (1[0-8]|[1-9])")
-EXACT_WORK = 40  # elements x (steps + leads) up to which the run is in fractions; above, it is enclosed between bounds
+EXACT_WORK = 40  # elements and inner tanks x (steps + leads) up to which the run is in fractions; above, it is enclosed between bounds
 
 
 judged = {"in fractions": 0, "between bounds": 0}  # discharges and variances compared so far
 # Of pairs of storms, so far; on one side is a forecast where the other storm's is refused.
 compared_storms = {"accepted whole": 0, "lines": 0, "larger discharges": 0, "forecasts on one side": 0}
+compared_reaches = {"rivers": 0, "lines": 0, "refusals": 0}  # of rivers with tanks beside the same in reaches, so far
 
 
 class Malformed(Exception):
@@ -90,11 +92,11 @@ def close(numbers, figure, exact, margin):
 def check_figures(data, output, numbers, run_of=FractionsRun):
     """The checks fractions and limit over a whole output: a dict of check to its first complaint."""
     table = cut_table(data)
-    found, run, above = {}, None, None
+    found, run, above, counts = {}, None, None, None
     for answer in answers(data, output):
         if run is None:
             run = run_of(table, numbers)
-            above = run.places_above()
+            above, counts = run.places_above(), run.counts_above()
         if answer[0] == "refused":
             if answer[3]:
                 run.step(answer[1])
@@ -113,7 +115,7 @@ def check_figures(data, output, numbers, run_of=FractionsRun):
                     raise ArithmeticError(f"bounds too wide at {row}")
                 if not verdict:
                     found.setdefault("fractions", f"{name} outside its margin: {' '.join(map(str, row))}")
-            if not read_above[number - 1] and margin > 16 * (steps + lead) * len(above[number - 1]):
+            if not read_above[number - 1] and margin > 16 * (steps + lead) * counts[number - 1]:
                 found.setdefault("limit", f"margin above 16 x n x c: {' '.join(map(str, row))}")
     return found
 
@@ -176,9 +178,51 @@ def rain_complaint(data, output, wetter, its_output, must_be_larger=False):
     return found
 
 
+def tank_counts(table):
+    """By element of an accepted table: its f where its kind is 4, and 1."""
+    elements = [table[at:at + 26] for at in range(10, 10 + 26 * table[8], 26)]
+    return [256 * element[8] + element[9] if element[0] == 4 else 1 for element in elements]
+
+
+def cells_of(table):
+    """The places of all tanks of a state, in the order in which the same river in reaches has its elements."""
+    cells, inner = [], table[8]
+    for place, count in enumerate(tank_counts(table)):
+        cells += [*range(inner, inner + count - 1), place]
+        inner += count - 1
+    return cells
+
+
+def lines_of_last_tanks(table, output):
+    """The lines for a river whose tanks are written out as reaches, as the river with this table has them: those of each element's last
+    tank under the element's number, and all refusals."""
+    counts, lines = tank_counts(table), []
+    numbers = {b"%d" % sum(counts[:place + 1]): b"%d" % (place + 1) for place in range(len(counts))}
+    for line in output.split(b"\n"):
+        words = line.split(b" ")
+        if len(words) < 7:
+            lines.append(line)
+        elif words[1] in numbers:
+            lines.append(b" ".join((words[0], numbers[words[1]], *words[2:])))
+    return lines
+
+
+def reaches_complaint(data, output, its_output):
+    """The check reaches (M-107): a dict as judge gives it, of the output for a river with tanks and that for the same river in reaches."""
+    lines, others = output.split(b"\n"), lines_of_last_tanks(cut_table(data), its_output)
+    refused = sum(b"refused" in line for line in others)
+    for name, count in zip(compared_reaches, (1, len(others) - 1 - refused, refused)):
+        compared_reaches[name] += count
+    if lines == others:
+        return {}
+    apart = next((line for line, pair in enumerate(zip(lines, others), 1) if pair[0] != pair[1]), min(len(lines), len(others)))
+    return {"reaches": f"differs from the same river in reaches at line {apart}"}
+
+
 def chosen_numbers(data):
     table = cut_table(data)
     if table is None or len(table) < 10:
         return ExactNumbers()
     steps = sum(1 for _ in zip(range(EXACT_WORK), cut_records(data, len(table))))
-    return ExactNumbers() if table[8] * (steps + table[7]) <= EXACT_WORK else EnclosedNumbers()
+    places = sum(tank_counts(table)) if len(table) >= 10 + 26 * table[8] else table[8]
+    return ExactNumbers() if places * (steps + table[7]) <= EXACT_WORK else EnclosedNumbers()

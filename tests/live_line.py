@@ -17,8 +17,8 @@ from pathlib import Path
 from calculator.encode import record_bytes, table_bytes
 from calculator.program import run
 from calculator.tried_figures import EXAMPLE_INPUT
-from inputs import (CEILING, DAM_RECORDS, FLOAT_GAP, FLOAT_RECORDS, GAP, PASSES, SMALL_RECORDS, dam_table, float_bits, float_river,
-                    gauged_reaches, random_for, small_table, some_records, some_table)
+from inputs import (CEILING, DAM_RECORDS, FLOAT_GAP, FLOAT_RECORDS, GAP, PASSES, SMALL_RECORDS, TANK_RECORDS, dam_table, float_bits,
+                    float_river, gauged_reaches, largest_tanks, random_for, small_table, some_records, some_table, tank_table)
 
 ROOT = Path(__file__).resolve().parent.parent
 PATIENCE = 2  # seconds within which an answer must come
@@ -167,6 +167,26 @@ def noises(line):
     line.close()
 
 
+def tanks_of_a_river(line):
+    """A river with tanks in pieces: a refused record leaves every tank as it was, and the run goes on."""
+    line.send(table_bytes(tank_table()), 5)
+    line.silent()
+    for record in (*TANK_RECORDS, ((0, 3_001), (GAP, GAP), (0,)), *TANK_RECORDS):
+        line.send(record_bytes(*record), 3)
+        line.answered()
+    line.close()
+
+
+def largest_of_tanks(line):
+    """64 elements of 8 tanks: all lines of a record before the next one."""
+    _, table, records = next(largest_tanks())
+    line.send(table_bytes(table), 4)
+    for record in records:
+        line.send(record_bytes(*record), 2)
+        line.answered()
+    line.close()
+
+
 def cut_record(left):
     def lines(line):
         line.send(SMALL)
@@ -211,8 +231,8 @@ def largest_river(line):
 
 
 LINES = {"whole records": whole_records, "bytes one by one": bytes_one_by_one, "table and record at once": table_and_record_at_once,
-         "refused records": refused_records, "releases": releases, "floats": floats, "noises": noises, "refused table": refused_table,
-         "long table": long_table, "largest river": largest_river}
+         "refused records": refused_records, "releases": releases, "floats": floats, "noises": noises, "tanks": tanks_of_a_river,
+         "refused table": refused_table, "long table": long_table, "largest river": largest_river, "512 tanks": largest_of_tanks}
 LINES |= {f"record cut at {left}": cut_record(left) for left in (0, 1, 2, 3, 10)}
 LINES |= {f"table cut at {left}": cut_table(left) for left in (0, 3, 4, 9, len(SMALL) - 1)}
 

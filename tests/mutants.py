@@ -8,8 +8,9 @@ For each mutant the checks of judge.py that caught it are printed with the count
 records) only where these do not catch it, and on the other small ones last.
 
 Some are tried once more without the calculator: by the same readings in records of either version, or the same numbers in tables of either
-version, whose outputs must be equal, and by two storms, of which the second has more rain. Then come wrong runs in fractions, which must
-find fault with the right program.
+version, whose outputs must be equal, by two storms, of which the second has more rain, and by a river with tanks beside the same river in
+reaches. Then come wrong runs in fractions, which must find fault with the right program, and wrong counts for the limit of margins, which
+must judge margins about it otherwise than the right one.
 
 Wrong libraries in the place of the C interface follow, which the comparison of calls.py must catch; with --libraries these alone. Some are
 then tried once more by what neighbouring calls say against each other, without the calculator. The last of them are in C:
@@ -30,15 +31,15 @@ import paper_figures
 from calculator import whole_numbers
 from calculator.encode import big_endian
 from calculator.floats import GAP_BITS, HALF
-from calculator.fractions_run import ExactNumbers, FractionsRun
-from calculator.program import LONGEST_TABLE, Program, run
+from calculator.fractions_run import EnclosedNumbers, FractionsRun
+from calculator.program import LONGEST_TABLE, Program, cut_table, run
 from calculator.whole_numbers import (BASIN, CEILING, DAM, ELEMENT_BYTES, GAP, GAUGE_BYTES, HEADER_BYTES, HIGHEST_BETA, HIGHEST_RAIN,
-                                      HIGHEST_STAGE, REACH, SCALE, Figures, Rating, Refused, Rules, State, decode_table, number_at,
+                                      HIGHEST_STAGE, REACH, SCALE, TANKS, Figures, Rating, Refused, Rules, State, decode_table, number_at,
                                       stage_in_range, under_ceiling)
-from call_cases import Watched, cases
-from calls import ROOT, Library, built_driver, compare, made_calls
+from call_cases import INNER, Watched, cases
+from calls import ROOT, Library, Reply, built_driver, compare, made_calls
 from inputs import SHAPES, inputs, random_for
-from judge import check_figures, judge, rain_complaint, version_complaint
+from judge import check_figures, chosen_numbers, judge, rain_complaint, reaches_complaint, version_complaint
 
 SEED = 1
 ENOUGH = 25  # inputs that catch a mutant; no more are tried then (of the slow ones, after one)
@@ -495,8 +496,8 @@ class UncorrectedOldOutflow(Rules):
         return [self.before.get(each, each) for each in old], new
 
 
-class NewForOld(Rules):
-    """The new outflows in the place of the old ones, in a step and at the leads."""
+class WithLead(Rules):
+    """Rules that know the lead."""
     lead, state = 0, None  # 0 in a step; the state of a forecast
 
     def forecast(self, table_bytes, state, lent):
@@ -509,6 +510,10 @@ class NewForOld(Rules):
     def network(self, *given):
         self.lead += self.state is not None
         return super().network(*given)
+
+
+class NewForOld(WithLead):
+    """The new outflows in the place of the old ones, in a step and at the leads."""
 
     def old_above(self, old, new):
         return new
@@ -1691,7 +1696,7 @@ class PlacesBeyondCleared(Library):
     def step(self, call):
         reply = super().step(call)
         at = 2 + 7 * call.state.count
-        reply.numbers[at:] = array("Q", [0] * (450 - at))
+        reply.numbers[at:] = array("Q", [0] * (len(reply.numbers) - at))
         return reply
 
 
@@ -1699,7 +1704,7 @@ class StartClearsBeyond(Library):
     def start(self, call):
         reply = super().start(call)
         at = 2 + 7 * call.table[8]
-        reply.numbers[at:] = array("Q", [0] * (450 - at))
+        reply.numbers[at:] = array("Q", [0] * (len(reply.numbers) - at))
         return reply
 
 
@@ -1709,7 +1714,7 @@ class NextPlaceWritten(Library):
     def step(self, call):
         reply = super().step(call)
         at = 2 + 7 * call.state.count
-        if at < 450:
+        if at < len(reply.numbers):
             reply.numbers[at:at + 4] = reply.numbers[at - 7:at - 3]
         return reply
 
@@ -1735,19 +1740,19 @@ class CountsThoughRefused(Library):
 class NoMinutes(Library):
     def check(self, call):
         reply = super().check(call)
-        reply.numbers[7] = 0
+        reply.numbers[9] = 0
         return reply
 
 
 class LowByteOfMinutes(Library):
     def check(self, call):
         reply = super().check(call)
-        reply.numbers[7] %= 256
+        reply.numbers[9] %= 256
         return reply
 
 
 class OldVersion(Library):
-    """A library of version 4 with a header of version 5."""
+    """A library of version 5 with a header of version 6."""
 
     def version(self, call):
         reply = super().version(call)
@@ -1820,10 +1825,33 @@ class DamsNotTold(Library):
         return reply
 
 
+class TanksNotTold(Library):
+    def check(self, call):
+        reply = super().check(call)
+        reply.numbers[5] = 0
+        return reply
+
+
+class ElementsToldAsPlaces(Library):
+    def check(self, call):
+        reply = super().check(call)
+        reply.numbers[6] = reply.numbers[0]
+        return reply
+
+
+class ForecastNumbersOfTanks(Library):
+    """The plan's forecast has numbers of every tank."""
+
+    def check(self, call):
+        reply = super().check(call)
+        reply.numbers[8] = 4 * reply.numbers[6] * (reply.numbers[1] + 1)
+        return reply
+
+
 class RecordBytesWithoutReleases(Library):
     def check(self, call):
         reply = super().check(call)
-        reply.numbers[5] -= 4 * reply.numbers[4]
+        reply.numbers[7] -= 4 * reply.numbers[4]
         return reply
 
 
@@ -2125,6 +2153,17 @@ class FloatsBy(Library):
 
 class NoisesBy(Library):
     """A library by rules with wrong noises or tables of version 2; only the cases of these are asked about it."""
+
+
+class TanksBy(Library):
+    """A library by rules with wrong tanks; only the cases of these are asked about it."""
+
+    def reply(self, call):
+        """What it writes beyond the places that are sent, the driver would see."""
+        try:
+            return super().reply(call)
+        except IndexError:
+            return Reply(0, 0, 0, array("Q"))
 
 
 class InflowsBy(Library):
@@ -2441,6 +2480,595 @@ class CeilingOf(Watched):
 # The others of rule 16's numbers cannot pass C where rule 8 holds; call_cases.all_at_ceiling brings them as high as they go.
 REACHING_THE_CEILING = ("basin inflow", "reach inflow", "reach inflow margin", "reach inflow variance", "reach inflow variance margin",
                         "moved margin", "moved variance", "corrected margin", "noise")
+# The same of inner tanks.
+TANKS_REACHING_THE_CEILING = ("reach inflow", "reach inflow margin", "reach inflow variance", "reach inflow variance margin", "moved margin",
+                              "moved variance")
+
+
+# ---- Wrong tanks -------------------------------------------------------------------------------------------------------------------------
+
+
+class WrongTanks(WithLead):
+    """Rules that work elements of tanks out wrongly; inputs with tanks are asked about them first."""
+
+
+class NoTanks(WrongTanks):
+    """An element of tanks is worked out as one reach."""
+
+    def moved_tanks(self, element, weight, old, inflow):
+        return [*old[:-1], self.move(element, weight, old[-1], inflow)]
+
+
+class OneTankMore(WrongTanks):
+    more = 1
+
+    def table(self, table_bytes):
+        table = super().table(table_bytes)
+        return replace(table, elements=tuple(replace(each, runoff=each.runoff + self.more) if each.kind == TANKS else each
+                                             for each in table.elements))
+
+
+class OneTankLess(OneTankMore):
+    more = -1
+
+
+class TanksInParallel(WrongTanks):
+    """Each tank is fed by what drains into the element."""
+
+    def moved_tanks(self, element, weight, old, inflow):
+        return [self.move(element, weight, figures, inflow) for figures in old]
+
+
+class TankLagDivided(WrongTanks):
+    """The element's lag is shared by its tanks."""
+
+    def network(self, table, *given):
+        elements = [replace(each, lag=max(table.step_minutes, each.lag // each.tanks)) for each in table.elements]
+        return super().network(replace(table, elements=tuple(elements)), *given)
+
+
+class TankLagMultiplied(WrongTanks):
+    def network(self, table, *given):
+        elements = [replace(each, lag=each.lag * each.tanks) for each in table.elements]
+        return super().network(replace(table, elements=tuple(elements)), *given)
+
+
+class TankNoiseOf(WrongTanks):
+    """W is not added in every tank."""
+
+    def has_noise(self, tank, count):
+        raise NotImplementedError
+
+    def moved_tanks(self, element, weight, old, inflow):
+        new, silent = [], replace(element, system_noise=0)
+        for tank, figures in enumerate(old):
+            if tank:
+                inflow = self.tank_inflow(old[tank - 1], new[tank - 1])
+            new.append(self.move(element if self.has_noise(tank, len(old)) else silent, weight, figures, inflow))
+        return new
+
+
+class TankNoiseInLast(TankNoiseOf):
+    def has_noise(self, tank, count):
+        return tank == count - 1
+
+
+class TankNoiseInFirst(TankNoiseOf):
+    def has_noise(self, tank, count):
+        return tank == 0
+
+
+class TankNoiseShared(WrongTanks):
+    """W is divided by the count of tanks."""
+
+    def moved_tanks(self, element, weight, old, inflow):
+        return super().moved_tanks(replace(element, system_noise=element.system_noise // len(old)), weight, old, inflow)
+
+
+class TankFirstValues(WrongTanks):
+    """Inner tanks start from other figures than the element's first values."""
+
+    def first(self, element):
+        raise NotImplementedError
+
+    def start(self, table_bytes, state):
+        started, table = super().start(table_bytes, state), self.table(table_bytes)
+        for element, places in zip(table.elements, table.tanks):
+            for place in places[:-1]:
+                started.figures[place] = self.first(element)
+        return started
+
+
+class FirstValuesInLastTank(TankFirstValues):
+    def first(self, element):
+        return Figures(0, 0, 0, 0)
+
+
+class FirstVarianceInLastTank(TankFirstValues):
+    def first(self, element):
+        return Figures(element.first_discharge, 0, 0, 0)
+
+
+class FirstDischargeInLastTank(TankFirstValues):
+    def first(self, element):
+        return Figures(0, 0, element.first_variance, 0)
+
+
+class FirstDischargeShared(TankFirstValues):
+    def first(self, element):
+        return Figures(element.first_discharge // element.tanks, 0, element.first_variance, 0)
+
+
+class InnerTanksNotStarted(WrongTanks):
+    """A start leaves in inner tanks what stands there."""
+
+    def start(self, table_bytes, state):
+        started = super().start(table_bytes, state)
+        started.figures[started.count:] = state.figures[started.count:]
+        return started
+
+
+class ReadingOnFirstTank(WrongTanks):
+    def corrected_tanks(self, tanks, z, noise):
+        return [self.correct(tanks[0], z, noise), *tanks[1:]]
+
+
+class ReadingOnEveryTank(WrongTanks):
+    def corrected_tanks(self, tanks, z, noise):
+        return [self.correct(figures, z, noise) for figures in tanks]
+
+
+class ReadingCopiedToEveryTank(WrongTanks):
+    def corrected_tanks(self, tanks, z, noise):
+        return [self.correct(tanks[-1], z, noise)] * len(tanks)
+
+
+class ReadingsOnTanksIgnored(WrongTanks):
+    def corrected_tanks(self, tanks, z, noise):
+        return tanks if len(tanks) > 1 else super().corrected_tanks(tanks, z, noise)
+
+
+class FirstTankDrains(WrongTanks):
+    """The first tank's figures are the element's."""
+
+    def moved_tanks(self, element, weight, old, inflow):
+        return super().moved_tanks(element, weight, old[::-1], inflow)[::-1]
+
+
+class TankPlacesShared(WrongTanks):
+    """The inner tanks of every element stand from place N on."""
+
+    def network(self, table, *given):
+        shared, first = replace(table), len(table.elements)
+        shared.__dict__["tanks"] = [(*range(first, first + each.tanks - 1), place) for place, each in enumerate(table.elements)]
+        shared.__dict__["places"] = table.places
+        new = super().network(shared, *given)
+        return [new[place] or given[0][place] for place in range(table.places)]
+
+
+class FirstTankByNewOutflow(WrongTanks):
+    """The first tank takes the new outflow above as if it had stood all step."""
+
+    def outflows_above(self, table, place, old, new):
+        above, new = super().outflows_above(table, place, old, new)
+        return new if table.elements[place].kind == TANKS else above, new
+
+
+class FirstTankByOldOutflow(WrongTanks):
+    def outflows_above(self, table, place, old, new):
+        above, new = super().outflows_above(table, place, old, new)
+        return above, above if table.elements[place].kind == TANKS else new
+
+
+class NewForOldBetweenTanks(WrongTanks):
+    def tank_inflow(self, old, new):
+        return super().tank_inflow(new, new)
+
+
+class OldForNewBetweenTanks(WrongTanks):
+    """As where the last tank is moved first."""
+
+    def tank_inflow(self, old, new):
+        return super().tank_inflow(old, old)
+
+
+class SpoiledTankInflow(WrongTanks):
+    """What a tank takes from the one above is wrong in one figure."""
+
+    def spoil(self, right, old, new):
+        raise NotImplementedError
+
+    def tank_inflow(self, old, new):
+        return self.spoil(super().tank_inflow(old, new), old, new)
+
+
+class TankHalfRoundedUp(SpoiledTankInflow):
+    def spoil(self, right, old, new):
+        return replace(right, discharge=(old.discharge + new.discharge + 1) // 2)
+
+
+class TankMarginHalfRoundedUp(SpoiledTankInflow):
+    def spoil(self, right, old, new):
+        return replace(right, margin=(old.margin + new.margin + 1) // 2 + 1)
+
+
+class TankMarginWithoutOne(SpoiledTankInflow):
+    def spoil(self, right, old, new):
+        return replace(right, margin=right.margin - 1)
+
+
+class TankMarginOfNew(SpoiledTankInflow):
+    def spoil(self, right, old, new):
+        return replace(right, margin=new.margin)
+
+
+class TankMarginLeftOut(SpoiledTankInflow):
+    def spoil(self, right, old, new):
+        return replace(right, margin=0)
+
+
+class TankVarianceNotCarried(SpoiledTankInflow):
+    def spoil(self, right, old, new):
+        return replace(right, variance=0)
+
+
+class TankVarianceMarginNotCarried(SpoiledTankInflow):
+    def spoil(self, right, old, new):
+        return replace(right, variance_margin=0)
+
+
+class TankVarianceOfOld(SpoiledTankInflow):
+    def spoil(self, right, old, new):
+        return replace(right, variance=old.variance, variance_margin=old.variance_margin)
+
+
+class MeanVarianceBetweenTanks(SpoiledTankInflow):
+    def spoil(self, right, old, new):
+        return replace(right, variance=(old.variance + new.variance) // 2)
+
+
+class TankOutflowsIn32Bits(SpoiledTankInflow):
+    """Old and new of the tank above are added in 32 bits."""
+
+    def spoil(self, right, old, new):
+        return replace(right, discharge=(old.discharge + new.discharge) % 2 ** 32 // 2)
+
+
+class TanksFrozenAtLeads(WrongTanks):
+    """Inner tanks stay at the leads as the state has them."""
+
+    def moved_tanks(self, element, weight, old, inflow):
+        new = super().moved_tanks(element, weight, old, inflow)
+        return [*old[:-1], self.last_by(element, weight, old, new)] if self.lead and len(old) > 1 else new
+
+    def last_by(self, element, weight, old, new):
+        return self.move(element, weight, old[-1], self.tank_inflow(old[-2], old[-2]))
+
+
+class InnerTanksNotKeptAtLeads(TanksFrozenAtLeads):
+    """Every lead moves the inner tanks from the state's figures; the last is worked out by them."""
+
+    def last_by(self, element, weight, old, new):
+        return new[-1]
+
+
+class InnerTanksNotKept(WrongTanks):
+    """A step leaves the inner tanks as they were."""
+
+    def step(self, table_bytes, record, state):
+        moved = super().step(table_bytes, record, state)
+        moved.figures[state.count:] = state.figures[state.count:]
+        return moved
+
+
+class TanksAtLeadsAsReach(WrongTanks):
+    """At the leads an element of tanks is one reach."""
+
+    def moved_tanks(self, element, weight, old, inflow):
+        if not self.lead:
+            return super().moved_tanks(element, weight, old, inflow)
+        return [*old[:-1], self.move(element, weight, old[-1], inflow)]
+
+
+class Unjudged(Watched):
+    """Rule 16 refuses nothing."""
+
+    def watch(self, name, number):
+        pass
+
+
+class InnerTanksNotJudged(WrongTanks):
+    """Rule 16 on the last tank of an element alone."""
+
+    def unjudged(self):
+        return True
+
+    def moved_tanks(self, element, weight, old, inflow):
+        if len(old) == 1 or not self.unjudged():
+            return super().moved_tanks(element, weight, old, inflow)
+        inner = Unjudged().moved_tanks(element, weight, old[:-1], inflow)
+        return [*inner, self.move(element, weight, old[-1], self.tank_inflow(old[-2], inner[-1]))]
+
+
+class InnerTanksNotJudgedInSteps(InnerTanksNotJudged):
+    def unjudged(self):
+        return not self.lead
+
+
+class InnerTanksNotJudgedAtLeads(InnerTanksNotJudged):
+    def unjudged(self):
+        return self.lead > 0
+
+
+class FirstTankNotJudged(WrongTanks):
+    """Rule 16 on every tank but not on what drains into the first."""
+
+    def moved_tanks(self, element, weight, old, inflow):
+        if len(old) == 1:
+            return super().moved_tanks(element, weight, old, inflow)
+        first = Unjudged().moved_tanks(element, weight, old[:1], inflow)
+        rest = super().moved_tanks(element, weight, old[1:], self.tank_inflow(old[0], first[0]))
+        under_ceiling(*first[0].numbers())
+        return first + rest
+
+
+class PatchedTanks(WrongTanks):
+    """A table is judged with other fields of its elements of tanks."""
+    offsets = {"kind": (0, 1), "lag": (2, 2), "area": (4, 4), "f": (8, 2), "G": (22, 4)}
+
+    def patched(self, element, step_minutes):
+        raise NotImplementedError
+
+    def table(self, table_bytes):
+        data = bytes(table_bytes)
+        count = data[8] if len(data) > HEADER_BYTES else 0
+        for at in range(HEADER_BYTES, min(HEADER_BYTES + ELEMENT_BYTES * count, len(data) - ELEMENT_BYTES + 1), ELEMENT_BYTES):
+            if data[at] == TANKS:
+                for name, value in self.patched(whole_numbers.decode_element(data, at), number_at(data, 5, 2)).items():
+                    start, size = self.offsets[name]
+                    data = data[:at + start] + big_endian(value, size) + data[at + start + size:]
+        return super().table(data)
+
+
+class OneTankTaken(PatchedTanks):
+    def patched(self, element, step_minutes):
+        return dict(kind=REACH, f=0) if element.runoff == 1 else {}
+
+
+class NoTankTaken(PatchedTanks):
+    def patched(self, element, step_minutes):
+        return dict(kind=REACH) if element.runoff == 0 else {}
+
+
+class NineTanksTaken(PatchedTanks):
+    def patched(self, element, step_minutes):
+        return dict(f=8) if element.runoff == 9 else {}
+
+
+class EightTanksRefused(PatchedTanks):
+    def patched(self, element, step_minutes):
+        return dict(f=9) if element.runoff == 8 else {}
+
+
+class TwoTanksRefused(PatchedTanks):
+    def patched(self, element, step_minutes):
+        return dict(f=1) if element.runoff == 2 else {}
+
+
+class LowByteOfTanks(PatchedTanks):
+    def patched(self, element, step_minutes):
+        return dict(f=element.runoff % 256)
+
+
+class AreaOfTanksTaken(PatchedTanks):
+    def patched(self, element, step_minutes):
+        return dict(area=0)
+
+
+class RainNoiseOfTanksTaken(PatchedTanks):
+    def patched(self, element, step_minutes):
+        return dict(G=0)
+
+
+class ShortLagOfTanksTaken(PatchedTanks):
+    """The lag of all tanks together is held to T."""
+
+    def patched(self, element, step_minutes):
+        return dict(lag=step_minutes) if element.lag * element.runoff >= step_minutes > element.lag else {}
+
+
+class LagOverTanksJudged(PatchedTanks):
+    """The lag divided by the count of tanks is held to T."""
+
+    def patched(self, element, step_minutes):
+        return dict(lag=0) if element.lag < step_minutes * element.runoff else {}
+
+
+class TanksRefused(PatchedTanks):
+    def patched(self, element, step_minutes):
+        return dict(kind=5)
+
+
+class KindFiveAsTanks(WrongTanks):
+    def table(self, table_bytes):
+        data = bytes(table_bytes)
+        for at in range(HEADER_BYTES, HEADER_BYTES + ELEMENT_BYTES * data[8] if len(data) > HEADER_BYTES else 0, ELEMENT_BYTES):
+            if data[at:at + 1] == b"\5":
+                data = data[:at] + bytes([TANKS]) + data[at + 1:]
+        return super().table(data)
+
+
+class DownToTanksRefused(WrongTanks):
+    def table(self, table_bytes):
+        table = super().table(table_bytes)
+        if any(each.down and table.elements[each.down - 1].kind == TANKS for each in table.elements):
+            raise Refused(6)
+        return table
+
+
+class GaugeOnTanksRefused(WrongTanks):
+    def table(self, table_bytes):
+        table = super().table(table_bytes)
+        if any(table.elements[gauge.element - 1].kind == TANKS for gauge in table.gauges):
+            raise Refused(7)
+        return table
+
+
+# Only libraries: what a host's state and space show.
+
+
+class LooksNotAtInnerTanks(WrongTanks):
+    """Rule 8 without the inner tanks."""
+
+    def passed_over(self, table):
+        return range(len(table.elements), table.places)
+
+    def check_state(self, table, state):
+        over = self.passed_over(table)
+        super().check_state(table, replace(state, figures=[Figures(0, 0, 0, 0) if place in over else figures
+                                                           for place, figures in enumerate(state.figures)]))
+
+
+class LooksNotAtLastInnerTank(LooksNotAtInnerTanks):
+    def passed_over(self, table):
+        return range(max(len(table.elements), table.places - 1), table.places)
+
+
+class LooksBeyondTanks(WrongTanks):
+    """Rule 8 on one place more than those in use."""
+
+    def check_state(self, table, state):
+        super().check_state(table, state)
+        if max(state.figures[table.places].numbers()) > CEILING:
+            raise Refused(8)
+
+
+class LooksAtEightTanksEach(WrongTanks):
+    """Rule 8 on eight tanks of each element of them, in use or not."""
+
+    def check_state(self, table, state):
+        super().check_state(table, state)
+        places = len(table.elements) + 7 * len(table.numbers_of(TANKS))
+        if any(max(figures.numbers()) > CEILING for figures in state.figures[:places]):
+            raise Refused(8)
+
+
+class LooksAtTankRains(LooksAtReachRains):
+    """Rule 8 on the rains of an element of tanks."""
+    kind = TANKS
+
+
+class LooksAtInnerTankRains(WrongTanks):
+    def check_state(self, table, state):
+        super().check_state(table, state)
+        if any(max(rains) > HIGHEST_RAIN for rains in state.rains[len(table.elements):table.places]):
+            raise Refused(8)
+
+
+class TankRainsMoved(WrongTanks):
+    """A step moves the rains of inner tanks, as those of a basin with no rain."""
+
+    def places_of(self, table):
+        return range(len(table.elements), table.places)
+
+    def step(self, table_bytes, record, state):
+        moved = super().step(table_bytes, record, state)
+        for place in self.places_of(self.table(table_bytes)):
+            moved.rains[place] = (0, *moved.rains[place][:2])
+        return moved
+
+
+class LastTankRainsMoved(TankRainsMoved):
+    def places_of(self, table):
+        return [number - 1 for number in table.numbers_of(TANKS)]
+
+
+class TankRainsStarted(WrongTanks):
+    """A start sets the rains of inner tanks to 0."""
+
+    def start(self, table_bytes, state):
+        started, table = super().start(table_bytes, state), self.table(table_bytes)
+        started.rains[started.count:table.places] = [(0, 0, 0)] * (table.places - started.count)
+        return started
+
+
+class UnusedPlacesStarted(WrongTanks):
+    """A start sets places that are not in use to 0."""
+
+    def start(self, table_bytes, state):
+        started, table = super().start(table_bytes, state), self.table(table_bytes)
+        started.figures[table.places:] = [Figures(0, 0, 0, 0)] * (len(started.figures) - table.places)
+        return started
+
+
+class UnusedPlacesCleared(WrongTanks):
+    """A step does, in a river with tanks."""
+
+    def step(self, table_bytes, record, state):
+        moved, table = super().step(table_bytes, record, state), self.table(table_bytes)
+        if table.places > len(table.elements):
+            moved.figures[table.places:] = [Figures(0, 0, 0, 0)] * (len(moved.figures) - table.places)
+        return moved
+
+
+class InnerTankMarginsKept(WrongTanks):
+    """A start leaves the margins of inner tanks."""
+
+    def start(self, table_bytes, state):
+        started, table = super().start(table_bytes, state), self.table(table_bytes)
+        for place in range(started.count, table.places):
+            started.figures[place] = replace(started.figures[place], margin=state.figures[place].margin)
+        return started
+
+
+class InnerTanksFromLast(WrongTanks):
+    """The inner tanks of an element stand the lowest first."""
+
+    def moved_tanks(self, element, weight, old, inflow):
+        *inner, last = super().moved_tanks(element, weight, [*old[-2::-1], old[-1]], inflow)
+        return [*inner[::-1], last]
+
+
+class ElementsOfTanksFromLast(WrongTanks):
+    """The inner tanks of the last element stand first."""
+
+    def network(self, table, *given):
+        turned, at = replace(table), table.places
+        tanks = []
+        for place, each in enumerate(table.elements):
+            at -= each.tanks - 1
+            tanks.append((*range(at, at + each.tanks - 1), place))
+        turned.__dict__["tanks"], turned.__dict__["places"] = tanks, table.places
+        return super().network(turned, *given)
+
+
+class RoomForTanks(WrongTanks):
+    """Rule 15 counts the inner tanks."""
+
+    def judge_room(self, table_bytes, lent, leads):
+        table = self.table(table_bytes)
+        if len(lent) < 4 * table.places * (leads + 1):
+            raise Refused(15)
+
+    def forecast(self, table_bytes, state, lent):
+        answer = super().forecast(table_bytes, state, lent)
+        self.judge_room(table_bytes, lent, self.table(table_bytes).leads)
+        return answer
+
+    def trial(self, table_bytes, record, state, lent):
+        answer = super().trial(table_bytes, record, state, lent)
+        self.judge_room(table_bytes, lent, 0)
+        return answer
+
+
+class TanksOfOtherState(WrongTanks):
+    """Rule 8 refuses an inner tank that is zero, as of a river without tanks."""
+
+    def check_state(self, table, state):
+        super().check_state(table, state)
+        inner = state.figures[len(table.elements):table.places]
+        if inner and all(figures == Figures(0, 0, 0, 0) for figures in inner):
+            raise Refused(8)
 
 
 # Standard input does not reach what these look at.
@@ -2473,6 +3101,23 @@ WRONG_NOISES = (BetaIgnored, TNotRounded, TRoundedUp, NoiseRoundedUp, NoiseNotSq
                 NoiseCutOff, NoisyReadingAsGap, NoiseWithFourteen, FourteenForNoise, NoiseBeforeZ, NoiseOfGapJudged,
                 TableVersionTwoRefused, TableVersionThreeTaken, GaugesOf46Bytes, GaugesOf48Bytes, BetaFromLastByte, BetaBeforeGauge,
                 BetaInVersionOne, BetaNotJudged, BetaAboveHighestTaken, HighestBetaRefused)
+# And of wrong tanks; of the second list standard input shows nothing.
+WRONG_TANKS = (NoTanks, OneTankMore, OneTankLess, TanksInParallel, TankLagDivided, TankLagMultiplied, TankNoiseInLast, TankNoiseInFirst,
+               TankNoiseShared, FirstValuesInLastTank, FirstVarianceInLastTank, FirstDischargeInLastTank, FirstDischargeShared,
+               InnerTanksNotStarted, ReadingOnFirstTank, ReadingOnEveryTank, ReadingCopiedToEveryTank, ReadingsOnTanksIgnored,
+               FirstTankDrains, TankPlacesShared, FirstTankByNewOutflow, FirstTankByOldOutflow, NewForOldBetweenTanks,
+               OldForNewBetweenTanks, TankHalfRoundedUp, TankMarginHalfRoundedUp, TankMarginWithoutOne, TankMarginOfNew, TankMarginLeftOut,
+               TankVarianceNotCarried, TankVarianceMarginNotCarried, TankVarianceOfOld, MeanVarianceBetweenTanks, TankOutflowsIn32Bits,
+               TanksFrozenAtLeads, InnerTanksNotKeptAtLeads, InnerTanksNotKept, TanksAtLeadsAsReach, InnerTanksNotJudged,
+               InnerTanksNotJudgedInSteps, InnerTanksNotJudgedAtLeads, FirstTankNotJudged, OneTankTaken, NoTankTaken, NineTanksTaken,
+               EightTanksRefused, TwoTanksRefused, LowByteOfTanks, AreaOfTanksTaken, RainNoiseOfTanksTaken, ShortLagOfTanksTaken,
+               LagOverTanksJudged, TanksRefused, KindFiveAsTanks, DownToTanksRefused, GaugeOnTanksRefused)
+ONLY_TANK_LIBRARIES = (LooksNotAtInnerTanks, LooksNotAtLastInnerTank, LooksBeyondTanks, LooksAtEightTanksEach, LooksAtTankRains,
+                       LooksAtInnerTankRains, TankRainsMoved, LastTankRainsMoved, TankRainsStarted, UnusedPlacesStarted,
+                       UnusedPlacesCleared, InnerTankMarginsKept, InnerTanksFromLast, ElementsOfTanksFromLast, RoomForTanks,
+                       TanksOfOtherState)
+# Of wrong tanks, what the same river in reaches shows without the calculator: all but those that take or refuse another table.
+APART_BY_REACHES = WRONG_TANKS[:WRONG_TANKS.index(OneTankTaken)]
 # Of these, what the same numbers in tables of both versions show without the calculator, β being 0.
 APART_BY_TABLE = (TableVersionTwoRefused, GaugesOf46Bytes, GaugesOf48Bytes, BetaBeforeGauge, BetaInVersionOne, VersionOneWithBeta)
 # Of wrong floats, what the same readings in both versions show.
@@ -2482,7 +3127,7 @@ APART_BY_VERSION = (MillimetresCutOff, FloatGapAsZero, FloatsInMillimetres, Expo
 # is none of these.
 APART_BY_RAIN = (RainIn8Bits, RainCappedAndWrapped, RainSumIn12Bits, RainProductIn32Bits, LossBySquareOfRain, MeanOfWetRains,
                  LeadNoiseAfterRain, InflowVarianceOfRain, GainOfDischarge, GainOfDistance, NoiseOfDischarge, OnlyReadingsAbove,
-                 OutflowsIn32Bits, HalfLagAtHighWater, DamHoldsInflowBack)
+                 OutflowsIn32Bits, HalfLagAtHighWater, DamHoldsInflowBack, TankOutflowsIn32Bits)
 WRONG_DISPLAYS = (DisplayMultiplied, DisplayDividedTwice, DisplayIn32Bits, DisplayOfCountIn32Bits, DisplayCutOff, DisplayInLitres,
                   DisplayChangedOver, DisplayNotJudged, DisplayDischargeJudged, DisplayMarginJudged, DisplayLowHalvesJudged,
                   DisplayOfCeilingRefused)
@@ -2505,8 +3150,9 @@ LEAKS = (ReadingOnElementBefore, ReadingOnElementAfter, ReadingOnElementsAbove, 
 # DamOldMarginLeftOut and the next: in a run a dam's margin is 0.
 NO_PROGRAMS = (Rules, Program, WrongAnswer, WrongInflow, WrongFloats, WrongNoise, RKept, WrongBetas, PatchedTable, WrongLook, WrongRate,
                WrongDisplay, Watched, LooksNotAt, CeilingOf, DamOldMarginLeftOut, DamOldMarginAtLeads, *ONLY_LIBRARIES, *WRONG_TRIALS,
-               *WRONG_DISPLAYS)
-NO_LIBRARIES = (Library, InflowsBy, FloatsBy, NoisesBy, ShownBy, WrongTrial, TrialsBy)
+               *WRONG_DISPLAYS, WithLead, WrongTanks, TankNoiseOf, TankFirstValues, SpoiledTankInflow, Unjudged, PatchedTanks,
+               *ONLY_TANK_LIBRARIES)
+NO_LIBRARIES = (Library, InflowsBy, FloatsBy, NoisesBy, TanksBy, ShownBy, WrongTrial, TrialsBy)
 
 
 def libraries():
@@ -2523,6 +3169,10 @@ def libraries():
         yield f"{wrong.__name__} in calls", FloatsBy(wrong())
     for wrong in WRONG_NOISES:
         yield f"{wrong.__name__} in calls", NoisesBy(wrong())
+    for wrong in WRONG_TANKS:
+        yield f"{wrong.__name__} in calls", TanksBy(wrong())
+    for wrong in ONLY_TANK_LIBRARIES:
+        yield wrong.__name__, TanksBy(wrong())
     for wrong in WRONG_DISPLAYS:
         yield wrong.__name__, ShownBy(wrong())
     for wrong in (*WRONG_TRIALS, *WRONG_STEPS):
@@ -2534,16 +3184,20 @@ def libraries():
     for name in REACHING_THE_CEILING:
         yield f"CeilingOf {name}, C refused", Library(CeilingOf(name, CEILING - 1))
         yield f"CeilingOf {name}, C + 1 taken", Library(CeilingOf(name, CEILING + 1))
+    for name in TANKS_REACHING_THE_CEILING:
+        yield f"CeilingOf {INNER}{name}, C refused", TanksBy(CeilingOf(INNER + name, CEILING - 1))
+        if name != "moved variance":  # C + 1 there is C + 1 as the variance of the next tank's inflow
+            yield f"CeilingOf {INNER}{name}, C + 1 taken", TanksBy(CeilingOf(INNER + name, CEILING + 1))
 
 
 # What stands once in bench/plain_calls.c or bench/river_in_c.h, and what a wrong library has in its place.
 STEPPED, FORECAST = "    set_next_values(&t, record + 3, space, state);\n", "    memcpy(numbers, space + t.leads + 1, sizeof *numbers * count);\n"
 WRITTEN = "    refusal = forecast_elements(&t, weights, NULL, state, space);\n"
-SPACE = "    Figures space[MOST_PLACES + 1];\n"
+SPACE, WORKED = "    Figures space[MOST_ELEMENTS + 1];\n", "    if (work(&t, record, readings, state, space, 0)) return 16;\n"
 JUDGED = "    u32 refusal = judge_step(&t, table, table_bytes, record, record_bytes, state, readings);\n"
 TRIAL_NEED, TRIAL_ROOM = "    size_t count = 4 * t.count;\n", "    if (numbers_lent < count) return (river_written){15, 0};\n"
 TRIAL_JUDGED, TRIAL_REFUSED = "    if (refusal) return (river_written){refusal, 0};\n" + TRIAL_NEED, "(river_written){16, 0};\n"
-TRIAL_WORKED = "    if (step_elements(&t, weights, record + 3, readings, state, space)) return " + TRIAL_REFUSED
+TRIAL_WORKED = "    if (work(&t, record, readings, state, space, 0)) return " + TRIAL_REFUSED
 TRIED = "    memcpy(numbers, space + 1, sizeof *numbers * count);\n"
 TOO_SHORT = "numbers_lent < 4 * t.count"
 WRONG_IN_C = {
@@ -2553,8 +3207,8 @@ WRONG_IN_C = {
     "a start clears the whole state": ("set_first_values(&t, state);", "memset(state, 0, sizeof *state), set_first_values(&t, state);"),
     "a step writes the place after the last": ("place->figures = space[i + 1];", "place->figures = place[1].figures = space[i + 1];"),
     "a step moves the rains of reaches": ("        if (e[KIND] != BASIN) continue;\n", ""),
-    "a step refused by 16 has moved the state": ("space)) return 16;\n" + STEPPED,
-                                                 "space)) refusal = 16;\n" + STEPPED + "    if (refusal) return 16;\n"),
+    "a step refused by 16 has moved the state": (WORKED + STEPPED, WORKED.replace("return", "refusal =") + STEPPED
+                                                 + "    if (refusal) return 16;\n"),
     "a step writes into its record": (STEPPED, STEPPED + "    ((u8 *)record)[2] = 1;\n"),
     "a check writes into its table what stands there": ("(&t, table, table_bytes);\n    if (refusal) return (river_plan)",
                                                         "(&t, table, table_bytes);\n    if (!refusal) *(volatile u8 *)table = table[0];\n"
@@ -2564,8 +3218,8 @@ WRONG_IN_C = {
     "a forecast clears all that is lent": (FORECAST, "    memset(numbers, 0, sizeof *numbers * numbers_lent);\n" + FORECAST),
     "a forecast writes after what is lent": (FORECAST, FORECAST + "    numbers[numbers_lent] = 0;\n"),
     "a forecast writes before what is lent": (FORECAST, FORECAST + "    numbers[-1] = 0;\n"),
-    "rule 8 looks at the place after the last": ("i < t->count; i++, e += ELEMENT_BYTES) {\n        const Figures *f",
-                                                 "i <= t->count; i++, e += ELEMENT_BYTES) {\n        const Figures *f"),
+    "rule 8 looks at the place after the last": ("i < t->count; i++, e += ELEMENT_BYTES) {\n        const u64 *rain",
+                                                 "i <= t->count; i++, e += ELEMENT_BYTES) {\n        const u64 *rain"),
     "rule 1 reads ten bytes of any table": ("if (size < HEADER || be4(table) != size - 4) return 1;",
                                             "if (table[9] > 255 || be4(table) != size - 4 || size < HEADER) return 1;"),
     "rule 10 reads two bytes of any record": ("if (size < 3 || be2(record) != size - 2)", "if (be2(record) != size - 2 || size < 3)"),
@@ -2632,7 +3286,7 @@ WRONG_IN_C = {
     "a trial hands out the state before it": (TRIED, "    for (size_t i = 0; i < t.count; i++) space[i + 1] = state->place[i].figures;\n"
                                               + TRIED),
     "a trial hands out lead 1 of a forecast": (
-        TRIED, "    Figures ahead[(MOST_PLACES + 1) * (MOST_LEADS + 1)];\n"
+        TRIED, "    u64 weights[MOST_ELEMENTS];\n    Figures ahead[(MOST_ELEMENTS + 1) * (MOST_LEADS + 1)];\n    weigh(&t, weights);\n"
         "    if (forecast_elements(&t, weights, NULL, state, ahead)) return (river_written){16, 0};\n"
         "    for (size_t i = 1; i <= t.count; i++) space[i] = ahead[(t.leads + 1) * i + 1];\n" + TRIED),
     "a trial hands out its figures one place late": (TRIED, TRIED.replace("space + 1", "space")),
@@ -2688,7 +3342,7 @@ AS_FLOAT = "    float metres;\n    memcpy(&metres, &bits, 4);\n"
 FLOAT_READ, FLOAT_JUDGED = "        u32 bits = be4(sent + 4 * k);\n", "        if (!float_fits(bits)) return 18;\n"
 GAP_PASSED, ALL_READ = "        if (stages[k] == GAP) continue;\n", "    readings->element = 0;\n"
 COUNTED, VERSIONS = "(version == 2 ? 4 : 2) * t->gauge_count) return 10;\n", "    if (version != 1 && version != 2) return 11;\n"
-STEP_REFUSED = "    if (refusal) return refusal;\n    weigh(&t, weights);\n"
+STEP_REFUSED = "    if (refusal) return refusal;\n    if (t.inner_count) return step_tanks("
 # These are tried by the cases of floats alone.
 WRONG_FLOATS_IN_C = {
     "a float is multiplied in 32 bits": (IN_MILLIMETRES, AS_FLOAT + "    return (u32)(metres * 1000.0f + 0.5f);\n"),
@@ -2827,7 +3481,76 @@ WRONG_NOISES_IN_C = {
                                 "gauge > t.gauge_count)\n        return (river_rating){refusal, 0, "
                                 "!refusal && gauge == 1 && t.gauge_count ? be4(t.gauges + NOISE) : 0, 0};"),
 }
-WRONG_IN_C |= WRONG_INFLOWS_IN_C | WRONG_FLOATS_IN_C | WRONG_NOISES_IN_C | WRONG_DISPLAYS_IN_C
+TANKS_MOVED = "        if (move_reach(w, noise, in, moved)) return 1;\n"
+TANK_DRAINED, LEAD_DRAINED = "        drain(&in, &inner->figures, moved);\n", "            drain(&own[lead], &old, &now);\n"
+TANK_LEADS, LAST_LEADS = "        Figures now = inner->figures;\n", "    return lead_reach(leads, e, w, own, below);\n"
+LEAD_MOVED = "            if (move_reach(w, noise, own[lead], &now)) return 1;\n"
+TANKS_FIT, TANKS_SET = "    for (size_t k = 0; k < count; k++)\n        if (!figures_fit", "    set_next_tanks(t, space, state);\n"
+TANKS_NEXT = "i < t->count + t->inner_count; i++) state->place[i].figures = space[i + 1];\n"
+FIRST_TANKS = "    if (t->inner_count) set_first_tanks(t, state);\n"
+TANK_LIMITS = "return tanks >= FEWEST_TANKS && tanks <= MOST_TANKS &&"
+PLANNED, TANKS_TRIED = "t.inner_count, t.count + t.inner_count,", "    memcpy(numbers, space + 1, sizeof *space * t->count);\n"
+WRONG_TANKS_IN_C = {
+    "a start sets no inner tank": (FIRST_TANKS, ""),
+    "a start sets one place beyond the tanks": (FIRST_TANKS, FIRST_TANKS.replace(";", ", state->place[t->count + t->inner_count].figures = "
+                                                                                 "first_figures(t->elements);")),
+    "a start clears all places not in use": (FIRST_TANKS, FIRST_TANKS + "    memset(state->place + t->count + t->inner_count, 0, sizeof "
+                                             "*state->place * (RIVER_MOST_PLACES - t->count - t->inner_count));\n"),
+    "a start clears the rains of inner tanks": ("inner++->figures = first_figures(e);",
+                                                "memset(inner->rain, 0, sizeof inner->rain), inner++->figures = first_figures(e);"),
+    "rule 8 looks at no inner tank": (TANKS_FIT, TANKS_FIT.replace("k < count", "k < 0")),
+    "rule 8 looks not at the last inner tank": (TANKS_FIT, TANKS_FIT.replace("k < count", "k + 1 < count")),
+    "rule 8 looks at one place beyond the tanks": (TANKS_FIT, TANKS_FIT.replace("k < count", "k <= count")),
+    "rule 8 looks at the rains of inner tanks": ("if (!figures_fit(&inner[k].figures)) return 0;",
+                                                 "if (!figures_fit(&inner[k].figures) || inner[k].rain[0] > HIGHEST_RAIN) return 0;"),
+    "a step keeps the inner tanks": (TANKS_SET, ""),
+    "a step of tanks writes the place after the last": (TANKS_NEXT, TANKS_NEXT.replace("i < t->count + t->inner_count",
+                                                                                      "i <= t->count + t->inner_count")),
+    "a step moves the rains of inner tanks": (TANKS_NEXT, TANKS_NEXT.replace("state->place[i].figures",
+                                                                            "state->place[i].rain[1] = state->place[i].rain[0], "
+                                                                            "state->place[i].figures")),
+    "a step of tanks refused by 16 has moved the state": (
+        "    if (work(t, record, readings, state, space, 1)) return 16;\n    set_next_values(t, record + 3, space, state);\n",
+        "    int above = work(t, record, readings, state, space, 1);\n    set_next_values(t, record + 3, space, state);\n"
+        "    if (above) return 16;\n"),
+    "a trial of tanks writes the inner ones too": (TANKS_TRIED, TANKS_TRIED.replace("t->count", "(t->count + t->inner_count)")),
+    "a trial of tanks moves the state": (TANKS_TRIED, TANKS_TRIED + "    set_next_tanks(t, space, (river_state *)state);\n"),
+    "a forecast moves the inner tanks of the state": (TANK_LEADS, TANK_LEADS + "        ((river_place *)inner)->figures.discharge++;\n"),
+    "a tank is fed the new outflow": (TANK_DRAINED, TANK_DRAINED.replace("&inner->figures", "moved")),
+    "a tank is fed the old outflow": (TANK_DRAINED, TANK_DRAINED.replace("inner->figures, moved", "inner->figures, &inner->figures")),
+    "a tank is fed the new outflow at leads": (LEAD_DRAINED, LEAD_DRAINED.replace("&old", "&now")),
+    "a tank passes on what drained into the first": ("        in = (Figures){0};\n", ""),
+    "a tank passes on what drained into it at leads": ("            own[lead] = (Figures){0};\n", ""),
+    "inner tanks are not judged by 16 at a step": (TANKS_MOVED, "        move_reach(w, noise, in, moved);\n"),
+    "inner tanks are not judged by 16 at leads": (LEAD_MOVED, "            move_reach(w, noise, own[lead], &now);\n"),
+    "inner tanks have no W": (TANKS_MOVED, TANKS_MOVED.replace("noise", "0")),
+    "inner tanks have no W at leads": (LEAD_MOVED, LEAD_MOVED.replace("noise", "0")),
+    "inner tanks start each lead from the state": (LEAD_DRAINED, LEAD_DRAINED + "            now = inner->figures;\n"),
+    "one tank fewer at a step": ("    for (; tanks > 1; tanks--, inner++, moved++) {\n", "    for (tanks--; tanks > 1; tanks--, inner++, "
+                                 "moved++) {\n"),
+    "one tank fewer at leads": ("be2(e + TANK_COUNT); tanks > 1;", "be2(e + TANK_COUNT) - 1; tanks > 1;"),
+    "all elements share the first inner places": ("            inner += tanks - 1;\n", ""),
+    "all elements share the first inner places at leads": ("            inner += be2(e + TANK_COUNT) - 1;\n        }\n    }\n    return 0;",
+                                                           "        }\n    }\n    return 0;"),
+    "a lag is divided by the count of tanks": ("if (e[KIND] != DAM) weights[i] = series_weight(t->step_minutes, be2(e + LAG));",
+                                               "if (e[KIND] != DAM) weights[i] = series_weight(t->step_minutes, e[KIND] == TANKS && "
+                                               "be2(e + LAG) / be2(e + TANK_COUNT) >= t->step_minutes ? be2(e + LAG) / be2(e + TANK_COUNT) "
+                                               ": be2(e + LAG));"),
+    "one tank is taken": (TANK_LIMITS, TANK_LIMITS.replace("FEWEST_TANKS", "1")),
+    "nine tanks are taken": (TANK_LIMITS, TANK_LIMITS.replace("MOST_TANKS", "9")),
+    "eight tanks are refused": (TANK_LIMITS, TANK_LIMITS.replace("<= MOST_TANKS", "< MOST_TANKS")),
+    "the low byte of a count of tanks is judged": ("    u32 tanks = be2(e + TANK_COUNT);\n    return", "    u32 tanks = e[TANK_COUNT + 1];\n"
+                                                   "    return"),
+    "the area of tanks is not judged": ("tanks <= MOST_TANKS && be4(e + AREA) == 0 &&", "tanks <= MOST_TANKS &&"),
+    "the rain noise of tanks is not judged": (" && be4(e + AREA) == 0 && be4(e + RAIN_NOISE) == 0;\n}\n\nstatic inline int element_fits",
+                                              " && be4(e + AREA) == 0;\n}\n\nstatic inline int element_fits"),
+    "the lag of tanks is not judged": ("case TANKS: return lag_fits(e, step_minutes) && holds_tanks(e);", "case TANKS: return holds_tanks(e);"),
+    "a plan tells one tank more": (PLANNED, PLANNED.replace("t.inner_count,", "t.inner_count + 1,", 1)),
+    "a plan tells places as elements": (PLANNED, "t.inner_count, t.count,"),
+    "all tanks are counted as inner": ("case TANKS: inner += be2(e + TANK_COUNT) - 1;\n        }", "case TANKS: inner += be2(e + TANK_COUNT);"
+                                       "\n        }"),
+}
+WRONG_IN_C |= WRONG_INFLOWS_IN_C | WRONG_FLOATS_IN_C | WRONG_NOISES_IN_C | WRONG_DISPLAYS_IN_C | WRONG_TANKS_IN_C
 
 
 def library_in_c(name, changes):
@@ -2846,17 +3569,24 @@ def library_in_c(name, changes):
 
 
 NOISE_CASES = ("noise: ", "ceiling: noise", "trial: noise, ", "rule 2", "rule 4", "rule 7", "last places")
+TANK_CASES = ("tanks: ", "ceiling: tanks, ", "trial: run with tanks", "rule 5", "rule 6", "rule 7", "last places",
+              "check")
+
+
+def built_cases():
+    """Each case of calls.py by its place among them, with its calls and the right replies."""
+    right = Library()
+    for number, case in enumerate(cases()):
+        calls = list(case.build(random_for(SEED, number)))
+        yield number + 1, replace(case, exact=False), calls, [right.reply(call) for call in calls]
 
 
 def caught_libraries():
     """By name of a wrong library: the first case of calls.py whose comparison catches it, and its place among the cases."""
-    right, built = Library(), []
-    for number, case in enumerate(cases()):
-        calls = list(case.build(random_for(SEED, number)))
-        built.append((number + 1, replace(case, exact=False), calls, [right.reply(call) for call in calls]))
+    built = list(built_cases())
     record_rules = tuple(f"rule {number}" for number in range(10, 19))
-    trials, inflows, floats, noises, shows, storms = ([each for each in built if each[1].name.startswith(begins)] for begins in (
-        "trial: ", "mean inflow: ", ("float: ", *record_rules), NOISE_CASES, "show: ", "storm: "))
+    trials, inflows, floats, noises, shows, storms, tanks = ([each for each in built if each[1].name.startswith(begins)] for begins in (
+        "trial: ", "mean inflow: ", ("float: ", *record_rules), NOISE_CASES, "show: ", "storm: ", TANK_CASES))
 
     def first_caught(reply_to, among, alone=False):
         """`alone`: by neighbouring calls alone, as if the calculator had the same mistake."""
@@ -2868,19 +3598,22 @@ def caught_libraries():
 
     def first_caught_in_c(name, changes):
         driver = built_driver(library_in_c(name, changes))
-        among = (trials if name.startswith("a trial ") else inflows if name in WRONG_INFLOWS_IN_C else floats if name in WRONG_FLOATS_IN_C
+        among = (tanks if name in WRONG_TANKS_IN_C else trials if name.startswith("a trial ")
+                 else inflows if name in WRONG_INFLOWS_IN_C else floats if name in WRONG_FLOATS_IN_C
                  else noises if name in WRONG_NOISES_IN_C else shows if name in WRONG_DISPLAYS_IN_C else built)
         replies = iter(made_calls(driver, [call for _, _, calls, _ in among for call in calls], starts=1))
         return first_caught(lambda _: next(replies), among)
 
     for name, wrong in libraries():
-        asked = {InflowsBy: inflows, FloatsBy: floats, NoisesBy: noises, ShownBy: shows}.get(type(wrong), built)
+        asked = {InflowsBy: inflows, FloatsBy: floats, NoisesBy: noises, TanksBy: tanks, ShownBy: shows}.get(type(wrong), built)
         yield name, *first_caught(wrong.reply, trials if isinstance(wrong, WrongTrial) else asked)
     yield "ReadingsIgnored in trials, by the step alone", *first_caught(TrialsBy(ReadingsIgnored()).reply, trials, alone=True)
     for wrongs, among, words in ((LEAKS, trials, "two trials"), (APART_BY_VERSION, floats, "both versions"),
-                                 (APART_BY_TABLE, noises, "both tables"), (APART_BY_RAIN, storms, "two storms")):
+                                 (APART_BY_TABLE, noises, "both tables"), (APART_BY_RAIN, storms, "two storms"),
+                                 (APART_BY_REACHES, tanks, "reaches")):
         for wrong in wrongs:
-            yield f"{wrong.__name__}, by {words} alone", *first_caught(Library(wrong()).reply, among, alone=True)
+            library = (TanksBy if among is tanks else Library)(wrong())
+            yield f"{wrong.__name__}, by {words} alone", *first_caught(library.reply, among, alone=True)
     if first_caught_in_c("as it stands", ())[0] != "NOT CAUGHT":
         sys.exit("bench/plain_calls.c as it stands is caught; see tests/calls.py")
     for name, changes in WRONG_IN_C.items():
@@ -2903,12 +3636,13 @@ FLOATS_FIRST, FLOAT_FAMILIES = names_of(WrongFloats, EighteenEndsRun), ("float",
 NOISES_FIRST, NOISE_FAMILIES = names_of(WrongNoise, OneTableByteMore, LongestOfVersionOne, LongestByVersion), (
     "noise", "size of table: ", "last place: 7, beta", "last place: 16")
 STORMS_FIRST, STORM_FAMILIES = {wrong.__name__ for wrong in APART_BY_RAIN}, "storm: "
+TANKS_FIRST, TANK_FAMILIES = names_of(WrongTanks), ("tanks: ", "tank river", "last place: 5, ")
 
 
 def chosen_inputs():
-    """Six groups: those with floats, those with noises, storms, some dozens of all other families, the slow ones, the other quick ones that
-    are small."""
-    floats, noises, storms, dozens, others, slow, seen = [], [], [], [], [], [], {}
+    """Seven groups: those with floats, those with noises, storms, those with tanks, some dozens of all other families, the slow ones, the
+    other quick ones that are small."""
+    floats, noises, storms, tanks, dozens, others, slow, seen = [], [], [], [], [], [], [], {}
     for number, given in enumerate(inputs()):
         family = given.family.split(" cut at")[0].split(" spoiled at")[0]
         seen[family] = seen.get(family, 0) + 1
@@ -2918,6 +3652,8 @@ def chosen_inputs():
             noises.append((number, given))
         elif given.family.startswith(STORM_FAMILIES):
             storms.append((number, given))
+        elif given.family.startswith(TANK_FAMILIES):
+            tanks.append((number, given))
         elif not given.fractions:
             slow.append((number, given))
         elif family.startswith(("river of 64", "longest", "long river", "Yubetsu")):
@@ -2926,7 +3662,7 @@ def chosen_inputs():
             dozens.append((number, given))
         else:
             others.append((number, given))
-    return floats, noises, storms, dozens, slow, others
+    return floats, noises, storms, tanks, dozens, slow, others
 
 
 def told(caught):
@@ -2936,12 +3672,12 @@ def told(caught):
 
 def try_programs():
     """Prints a line for each wrong program; gives how many were tried and how many not caught."""
-    (floats, noises, storms, *groups), expected = chosen_inputs(), {}
+    (floats, noises, storms, tanks, *groups), expected = chosen_inputs(), {}
     tried = missed = 0
     for name, wrong in mutants():
         caught, used = {}, 0
-        for group in ([floats] * (name in FLOATS_FIRST) + [noises] * (name in NOISES_FIRST) + [storms] * (name in STORMS_FIRST) + groups
-                      + [floats, noises, storms]):
+        for group in ([floats] * (name in FLOATS_FIRST) + [noises] * (name in NOISES_FIRST) + [storms] * (name in STORMS_FIRST)
+                      + [tanks] * (name in TANKS_FIRST) + groups + [floats, noises, storms, tanks]):
             for number, given in group:
                 if caught.get("bytes", 0) >= (ENOUGH if given.fractions else 1):
                     break
@@ -2991,6 +3727,19 @@ def try_storms():
     return len(APART_BY_RAIN), missed
 
 
+def try_reaches():
+    """Wrong programs that print something else for a river with tanks than for the same river in reaches: how many tried and not caught."""
+    pairs = [[build(random_for(SEED, number)) for build in (given.build, given.reaches)]
+             for number, given in enumerate(inputs()) if given.reaches]
+    missed = 0
+    for wrong in APART_BY_REACHES:
+        program = Program(wrong())
+        caught = sum(bool(reaches_complaint(data, program.run(data), program.run(written))) for data, written in pairs)
+        missed += not caught
+        print(f"{wrong.__name__}, by reaches alone: {f'reaches {caught}' if caught else 'NOT CAUGHT'} (of {len(pairs)} pairs)")
+    return len(APART_BY_REACHES), missed
+
+
 # ---- Wrong runs in fractions -------------------------------------------------------------------------------------------------------------
 
 
@@ -3016,18 +3765,117 @@ class NoiseUnroundedGiven(FractionsRun):
         return noise + (beta * z / 10 ** 6) ** 2 / 1_000
 
 
+class OneTankGiven(FractionsRun):
+    def tank_counts(self):
+        return [1 for _ in self.elements]
+
+
+class FirstValuesInLastTankGiven(FractionsRun):
+    def start(self):
+        super().start()
+        zero = self.numbers.of(0)
+        self.stores = [[(zero, zero)] * (len(tanks) - 1) + tanks[-1:] for tanks in self.stores]
+
+
+class TankLagDividedGiven(FractionsRun):
+    def start(self):
+        super().start()
+        self.elements = [(kind, down, max(self.step_minutes, lag // tanks), *rest)
+                         for (kind, down, lag, *rest), tanks in zip(self.elements, self.tank_counts())]
+
+
+class NewOutflowGiven(FractionsRun):
+    """A reach and a tank take what came after alone."""
+
+    def mean_inflow(self, above):
+        return super().mean_inflow([(after, after) for _, after in above])
+
+
 WRONG_RUNS = (RGiven, NoiseOfUnroundedZGiven, TUnroundedGiven, NoiseUnroundedGiven)
+WRONG_TANK_RUNS = (OneTankGiven, FirstValuesInLastTankGiven, TankLagDividedGiven, NewOutflowGiven)
+
+
+def built_inputs(family, most):
+    """The quick inputs of a family of at most so many bytes; larger rivers take long in fractions."""
+    chosen = (given.build(random_for(SEED, number)) for number, given in enumerate(inputs()) if given.family.startswith(family))
+    return [data for data in chosen if len(data) < most]
 
 
 def try_fractions():
-    """Runs in fractions that are given another noise than the cabinet's: how many were tried and how many found no fault."""
-    chosen = [given.build(random_for(SEED, number)) for number, given in enumerate(inputs()) if given.family.startswith("noise: ")]
-    outputs, missed = [(data, run(data)) for data in chosen if len(data) < 1_000], 0  # larger rivers take long in fractions
-    for wrong in WRONG_RUNS:
-        caught = sum("fractions" in check_figures(data, output, ExactNumbers(), wrong) for data, output in outputs)
+    """Runs in fractions that are given another noise or other tanks than the cabinet's: how many were tried and how many found no fault."""
+    missed = 0
+    for family, most, wrongs in (("noise: ", 1_000, WRONG_RUNS), ("tanks: ", 200, WRONG_TANK_RUNS)):
+        outputs = [(data, run(data)) for data in built_inputs(family, most)]
+        for wrong in wrongs:
+            caught = sum("fractions" in check_figures(data, output, chosen_numbers(data), wrong) for data, output in outputs)
+            missed += not caught
+            print(f"{wrong.__name__}: {f'fractions {caught}' if caught else 'NOT CAUGHT'} (of {len(outputs)} inputs)")
+    return len(WRONG_RUNS + WRONG_TANK_RUNS), missed
+
+
+# ---- Wrong limits ------------------------------------------------------------------------------------------------------------------------
+
+
+class LimitOfElements(FractionsRun):
+    """c counts elements, whatever their tanks."""
+
+    def counts_above(self):
+        return list(map(len, self.places_above()))
+
+
+class LimitWithoutOwnTanks(FractionsRun):
+    """c counts the tanks above an element, and its own as one."""
+
+    def counts_above(self):
+        return [count - own + 1 for count, own in zip(super().counts_above(), self.tank_counts())]
+
+
+class LimitOfOwnTanks(FractionsRun):
+    """c counts an element's own tanks, and those above as one each."""
+
+    def counts_above(self):
+        return [len(places) + own - 1 for places, own in zip(self.places_above(), self.tank_counts())]
+
+
+class LimitOfOneMore(FractionsRun):
+    def counts_above(self):
+        return [count + 1 for count in super().counts_above()]
+
+
+WRONG_LIMITS = (LimitOfElements, LimitWithoutOwnTanks, LimitOfOwnTanks, LimitOfOneMore)
+
+
+def at_the_limit(data, output, more):
+    """An output with every discharge margin at 16 x n x c and so many more."""
+    counts, lines = FractionsRun(cut_table(data)).counts_above(), []
+    for line in output.splitlines():
+        words = line.split(b" ")
+        if len(words) == 7:
+            words[4] = b"%d" % (16 * (int(words[0]) + int(words[2])) * counts[int(words[1]) - 1] + more)
+        lines.append(b" ".join(words) + b"\n")
+    return b"".join(lines)
+
+
+def try_limits():
+    """Runs that count c otherwise, on margins at the limit and one above it in rivers with tanks: how many were tried and how many always
+    agree with the right one."""
+    outputs = []
+    for data in built_inputs("tanks: ", 400):
+        right = run(data)
+        if not cut_table(data)[9] and b"refused" not in right:
+            outputs += [(data, at_the_limit(data, right, more), more) for more in (0, 1)]
+
+    def judged(run_of):
+        return ["limit" in check_figures(data, output, EnclosedNumbers(), run_of) for data, output, _ in outputs]
+
+    right, missed = judged(FractionsRun), 0
+    if right != [more == 1 for *_, more in outputs]:
+        sys.exit("margins at the limit are not judged by it; see tests/judge.py")
+    for wrong in WRONG_LIMITS:
+        caught = sum(one != other for one, other in zip(judged(wrong), right))
         missed += not caught
-        print(f"{wrong.__name__}: {f'fractions {caught}' if caught else 'NOT CAUGHT'} (of {len(outputs)} inputs)")
-    return len(WRONG_RUNS), missed
+        print(f"{wrong.__name__}: {f'limit {caught}' if caught else 'NOT CAUGHT'} (of {len(outputs)} outputs)")
+    return len(WRONG_LIMITS), missed
 
 
 # Rules that change figures of the worked examples.
@@ -3068,7 +3916,8 @@ def try_papers():
 
 def main():
     chosen = sys.argv[1:]
-    parts = ([] if chosen else [try_programs, try_versions, try_storms, try_fractions]) + ([] if "--libraries" in chosen else [try_papers])
+    programs = [try_programs, try_versions, try_storms, try_reaches, try_fractions, try_limits]
+    parts = ([] if chosen else programs) + ([] if "--libraries" in chosen else [try_papers])
     tried, missed = map(sum, zip((0, 0), *(part() for part in parts)))
     for name, caught, used in caught_libraries() if "--papers" not in chosen else ():
         tried, missed = tried + 1, missed + (caught == "NOT CAUGHT")

@@ -8,7 +8,8 @@
   inputs    each block of hex there, given to the calculator and to the built program, prints the block of text after it
   files     one of these blocks is examples/three-elements/river.hex, and what it prints expected.txt there; floats.hex there prints the
             same, but for the number of the refusal; proportional-noise.hex prints its own expected output, with β 0 that of river.hex;
-            each file of examples/two-storms/ prints its own too, and the page's command compares the two
+            each file of examples/two-storms/ prints its own too, and the page's command compares the two; so do the rivers of
+            examples/one-dam/ and examples/tanks/
   lines     each printed line that these pages, README.md and examples/c/README.md show stands in an expected output
 
 --show prints the numbers of one example as the calculator has them, to write the page by. The program is target/bin/cabinet unless
@@ -101,7 +102,7 @@ def inputs(page, program):
 
 def files(page, program):
     """The example river in the page and in its own files; what it prints where its stages are floats and where its gauge has a β; what two
-    storms print."""
+    storms print, a river with a dam and one with tanks."""
     complaints, folder, storms = [], ROOT / "examples/three-elements", ROOT / "examples/two-storms"
     for kind, name in (("hex", "river.hex"), ("text", "expected.txt")):
         if (kind, (folder / name).read_text()) not in BLOCK.findall(page):
@@ -112,7 +113,9 @@ def files(page, program):
     without_beta = noise[:size - 2] + bytes(2) + noise[size:]
     less, more = ((f"two-storms/{name}.hex", bytes_of_hex((storms / f"{name}.hex").read_text()),
                    (storms / f"{name}-expected.txt").read_text()) for name in ("less-rain", "more-rain"))
-    for words, data, right in (("three-elements/floats.hex", floats, expected.replace("refused 13", "refused 18")),
+    rivers = [(f"{name}/river.hex", bytes_of_hex((ROOT / f"examples/{name}/river.hex").read_text()),
+               (ROOT / f"examples/{name}/expected.txt").read_text()) for name in ("one-dam", "tanks")]
+    for words, data, right in (*rivers, ("three-elements/floats.hex", floats, expected.replace("refused 13", "refused 18")),
                                ("three-elements/proportional-noise.hex", noise, with_beta),
                                ("three-elements/proportional-noise.hex with β 0", without_beta, expected), less, more):
         for name, printed in (("calculator", run(data)), ("program", program_output(program, data))):

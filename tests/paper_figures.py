@@ -19,8 +19,8 @@ from calculator.encode import float_bits, record_bytes, table_bytes
 from calculator.floats import GAP_BITS
 from calculator.fractions_run import ExactNumbers, FractionsRun, exact_weight
 from calculator.program import Program, cut_records, cut_table, run
-from calculator.whole_numbers import (BASIN, CEILING, DAM, GAP, HIGHEST_STAGE, LAST_TOP, REACH, RULES, SCALE, Element, Figures, Gauge,
-                                      Piece, Refused, Rules, State, decode_table, record_fields)
+from calculator.whole_numbers import (BASIN, CEILING, DAM, GAP, HIGHEST_STAGE, LAST_TOP, REACH, RULES, SCALE, TANKS, Element, Figures,
+                                      Gauge, Piece, Refused, Rules, State, decode_table, record_fields)
 
 ROOT = Path(__file__).resolve().parent.parent
 SAMPLE_FOLDER = ROOT / "examples/yubetsu-2001"
@@ -155,9 +155,9 @@ def bytes_of_hex(text):
 
 
 def added(figures, name):
-    """One number of several figures, written as a sum."""
+    """One number of several figures, written as a sum; of one alone, the number."""
     each = [getattr(one, name) for one in figures]
-    return f"{' + '.join(map(n, each))} = {n(sum(each))}"
+    return " + ".join(map(n, each)) + f" = {n(sum(each))}" * (len(each) > 1)
 
 
 class ExampleRiver:
@@ -245,7 +245,21 @@ class ExampleRiver:
             of_dam(lambda figures: n(figures.variance_margin), lambda move: move.blends[3].margin_written()))
 
 
+class TankRiver(ExampleRiver):
+    """The river of examples/tanks/: a basin and an element of tanks; in `elements` each tank is a reach by itself."""
+
+    def __init__(self, folder):
+        super().__init__(folder)
+        basin, self.tanks = self.elements
+        self.elements = basin, *[Element(**vars(self.tanks) | dict(kind=REACH))] * self.tanks.tanks
+        _, self.places = decode_table(self.table).tanks
+
+    def heads_of_columns(self):
+        return " ".join(f"{number}" for number in (1, *range(1, self.tanks.tanks + 1)))
+
+
 THREE_ELEMENTS, ONE_DAM, FLOATS = ExampleRiver("three-elements"), ExampleRiver("one-dam"), ExampleRiver("three-elements", "floats.hex")
+TANK_RIVER = TankRiver("tanks")
 PROPORTIONAL = ExampleRiver("three-elements", "proportional-noise.hex")
 LESS_RAIN, MORE_RAIN = ExampleRiver("two-storms", "less-rain.hex"), ExampleRiver("two-storms", "more-rain.hex")
 RIVER, TABLE, RECORDS, ELEMENTS = THREE_ELEMENTS.data, THREE_ELEMENTS.table, THREE_ELEMENTS.records, THREE_ELEMENTS.elements
@@ -348,11 +362,11 @@ def reading_written(rules, before, z, noise, after, exact=None):
     gain = SCALE * before.variance // total
     assert blend.weight == SCALE - gain and blend.y == z
     x, v = (d(exact[0], 3) + " " + d(abs(exact[0] - after.discharge), 1), d(exact[1], 4)) if exact else ("", "")
-    return f"""K = [{n(SCALE)} × {before.variance} / {total}] = {n(gain)}; S − K = {n(SCALE - gain)}
-    k = [{n(SCALE)} × {before.variance_margin} / {total}] + 2 = {n(blend.weight_margin)}
+    return f"""K = [{n(SCALE)} × {before.variance} / {n(total)}] = {n(gain)}; S − K = {n(SCALE - gain)}
+    k = [{n(SCALE)} × {before.variance_margin} / {n(total)}] + 2 = {n(blend.weight_margin)}
     {value_products(blend)} {margin_products(blend)} {x}
-    [{before.variance} × {noise} / {total}] = {after.variance};
-    [{before.variance_margin} × {noise} / {total}] + 2 = {after.variance_margin} {v}"""
+    [{before.variance} × {n(noise)} / {n(total)}] = {after.variance};
+    [{before.variance_margin} × {n(noise)} / {n(total)}] + 2 = {after.variance_margin} {v}"""
 
 
 def one_reading():
@@ -681,6 +695,144 @@ def river_with_a_dam():
     lead 2 {figures_written(dam_2)} element 4 {figures_written(reach_2)}
     {n(after_2[1].discharge)} element 4 {n(after_2[3].discharge)} lead 1 {n(reach_1.discharge)} {root(reach_1.variance, 2)}
     {n(dam_1.discharge)}"""
+
+
+def tank_river_told():
+    """The table and first record of the river with tanks in words."""
+    table, gauge = decode_table(TANK_RIVER.table), decode_table(TANK_RIVER.table).gauges[0]
+    basin, tanks = table.elements
+    ((rain,), _, (stage,)), weight = record_fields(table, TANK_RIVER.records[0]), RULES.weight(table.step_minutes, tanks.lag)
+    assert tanks.kind == TANKS and gauge.element == 2 and basin.lag == tanks.lag
+    return f"""T = {table.step_minutes} element 1 {basin.down} {basin.lag} {basin.area // 100} {n(basin.area)} {basin.runoff}
+    {n(basin.first_discharge)} {basin.first_variance} {basin.system_noise} {n(basin.rain_noise)}
+    element 2 {tanks.runoff} {tanks.down} {tanks.lag} {n(tanks.first_discharge)} {tanks.first_variance} {tanks.system_noise}
+    {n(gauge.pieces[0].a)} {n(gauge.pieces[0].b)} {n(gauge.noise)} {rain} {n(stage)} {n(weight)} {n(SCALE - weight)}"""
+
+
+def chain_of_tanks():
+    """A step of the river with tanks, tank by tank, the correction of the last one, and two leads."""
+    rules, leads, river = Noted(), Noted(), TANK_RIVER
+    state, exact = river.after_steps(rules, 1)
+    before, z, noise = rules.moves[-1].figures, *RULES.look(decode_table(river.table).gauges[0], 900)[1:3]
+    _, answer = leads.forecast(river.table, state, LENT)
+    lead_1, lead_2 = leads.moves[:4], leads.moves[4:]
+    after = [f"{name} {place} {figures_written(state.figures[place])} {d(x, 3)} {d(v, 3)}" for name, place, (x, v) in
+             zip((1, 1, 2, 3), (0, *river.places), (*exact.stores[0], *exact.stores[1]))]
+    assert [Figures(*answer[at:at + 4]) for at in (16, 20)] == [lead_1[3].figures, lead_2[3].figures]
+    printed = run(river.data).decode().splitlines()[3]
+    return f"""{tank_river_told()}
+    {step_written(river, rules.moves, state)}
+    3 {n(z)} {reading_written(rules, before, z, noise, state.figures[1])}
+    {" ".join(after)} {printed}
+    lead 1 {lead_written(river, lead_1, state)}
+    lead 2 {" ".join(f"{name} {figures_written(move.figures)}" for name, move in zip((1, 1, 2, 3), lead_2))}"""
+
+
+def tank_places():
+    """Where the tanks of a river with two elements of tanks stand in its state."""
+    elements = [dict(kind=BASIN, down=2, lag=60, area=1), dict(kind=TANKS, down=4, lag=60, f=3), dict(kind=BASIN, down=4, lag=60, area=1),
+                dict(kind=TANKS, lag=60, f=2)]
+    table = decode_table(table_bytes(dict(T=60, L=1, elements=elements, gauges=[])))
+    rows = sorted((place, number, tank) for number, tanks in enumerate(table.tanks, 1) for tank, place in enumerate(tanks, 1))
+    kinds = [element.kind for element in table.elements]
+    written = [f"{place} {number}" + f" {tank}" * (kinds[number - 1] == TANKS) for place, number, tank in rows]
+    count, places = len(table.elements), table.places
+    extra = places - count
+    return f"2 3 4 2 {' '.join(written)} {extra} {count} + {extra} = {places} 2 + 7 × {places} = {2 + 7 * places}"
+
+
+# Of the storms: T, what drains in, and the three elements into which it drains.
+STORM_STEP, STORM_BASIN, STORM_DAM = 20, dict(kind=BASIN, down=2, lag=60, area=3_600, f=500), dict(kind=DAM, down=2)
+STORES = dict(kind=REACH, lag=60), dict(kind=REACH, lag=180), dict(kind=TANKS, lag=60, f=3)
+
+
+def after_wave(above, store, records):
+    """What drains into an element and what it has, in grains after each record; both begin at 0."""
+    table = table_bytes(dict(T=STORM_STEP, L=1, elements=[above, store], gauges=[]))
+    state, found = RULES.start(table, State()), []
+    for record in records:
+        state = RULES.step(table, record, state)
+        found.append([figures.discharge for figures in state.figures[:2]])
+    return [list(each) for each in zip(*found)]
+
+
+def after_rain(store, hours, until=24):
+    """The same for rain of 20 mm/h for so many hours on the basin, and then none."""
+    steps = 60 // STORM_STEP
+    return after_wave(STORM_BASIN, store, [record_bytes((200 if step < hours * steps else 0,), ()) for step in range(until * steps)])
+
+
+def after_release(store):
+    """The same for a release of 100 m³/s in one step."""
+    return after_wave(STORM_DAM, store, [record_bytes((), (), (10 ** 8 if step == 0 else 0,)) for step in range(24 * 60 // STORM_STEP)])
+
+
+def moments(series, minutes):
+    """Of discharges at equal times: their mean time in minutes, and the variance about it."""
+    whole = sum(series)
+    mean = sum(Fraction(minutes * step * each, whole) for step, each in enumerate(series, 1))
+    return mean, sum(Fraction((minutes * step) ** 2 * each, whole) for step, each in enumerate(series, 1)) - mean ** 2
+
+
+def highest(series):
+    """The highest of a wave's discharges, and after how many minutes it comes."""
+    return f"{thousandths(max(series))} {STORM_STEP * (1 + series.index(max(series)))}"
+
+
+def flattened_wave():
+    """A storm through a reach of lag 60, one of lag 180 and three tanks of lag 60, hour by hour; the peaks of other waves; the mean delay
+    and the spread of each."""
+    storm = [after_rain(store, 1) for store in STORES]
+    rows = [f"{60 * hour} " + " ".join(thousandths(each[60 * hour // STORM_STEP - 1]) for each in (storm[0][0], *(own for _, own in storm)))
+            for hour in range(1, 11)]
+    waves = [[after_release(store) for store in STORES], *([after_rain(store, hours) for store in STORES] for hours in (1, 3, 6, 12))]
+    for number, wave in enumerate(waves):
+        short, long, tanks = (max(own) for _, own in wave)
+        assert tanks < short and (tanks < long if number == 0 else long < tanks)  # as the page says
+    peaks = [f"{words} {highest(wave[0][0])} {' '.join(highest(own) for _, own in wave)}"
+             for words, wave in zip((STORM_STEP, 1, 3, 6, 12), waves)]
+    late = []
+    for store in STORES:
+        (mean, variance), (later, wider) = (moments(series, STORM_STEP) for series in after_rain(store, 1, 72))
+        late.append(f"{float(later - mean):.0f} {float(wider - variance) ** 0.5:.0f}")
+    return f"""T = {STORM_STEP} 36 500 60 20 60 180 60 60 180 60 {" ".join(rows)} 100 60 180 60 {" ".join(peaks)}
+    60 {late[0]} 180 {late[1]} 60 {late[2]}"""
+
+
+# A wave at two gauges, in m³/s above what flowed before it, hour by hour.
+WAVE_ABOVE, WAVE_BELOW = (20, 60, 20, *[0] * 11), (0, 2, 10, 17, 20, 15, 13, 9, 6, 3, 2, 1, 1, 1)
+
+
+def tanks_chosen():
+    """The number of tanks and their lag from a wave at two gauges, and what stores of several counts make of it."""
+    def added_up(series, power):
+        products = " + ".join(f"{hour ** power} × {each}" for hour, each in enumerate(series, 1) if each)
+        return f"({products}) / {sum(series)}"
+
+    (above, wide), (below, wider) = (moments(series, 1) for series in (WAVE_ABOVE, WAVE_BELOW))  # in hours
+    delay, spread = 60 * (below - above), 3_600 * (wider - wide)
+    count = round(delay ** 2 / spread)
+    assert sum(WAVE_ABOVE) == sum(WAVE_BELOW) and above == int(above) and below == int(below)
+    columns, errors = [], []
+    for tanks in (1, 2, 3, 4):
+        store = dict(kind=TANKS, lag=int(delay / tanks), f=tanks) if tanks > 1 else dict(kind=REACH, lag=int(delay))
+        table = table_bytes(dict(T=60, L=1, elements=[STORM_DAM, store], gauges=[]))
+        state, found = RULES.start(table, State()), []
+        for each in WAVE_ABOVE:
+            state = RULES.step(table, record_bytes((), (), (10 ** 6 * each,)), state)
+            found.append(state.figures[1].discharge / 10 ** 6)
+        columns.append(found)
+        errors.append((sum((here - there) ** 2 for here, there in zip(found, WAVE_BELOW)) / len(found)) ** 0.5)
+    assert min(errors) == errors[count - 1]
+    rows = [f"{hour} {WAVE_ABOVE[hour - 1]} {WAVE_BELOW[hour - 1]} {' '.join(f'{found[hour - 1]:.1f}' for found in columns)}"
+            for hour in range(1, len(WAVE_ABOVE) + 1)]
+    heads = " ".join(f"{tanks} {int(delay / tanks)}" for tanks in (2, 3, 4))
+    return f"""{sum(WAVE_ABOVE)} {added_up(WAVE_ABOVE, 1)} = {above} {added_up(WAVE_BELOW, 1)} = {below}
+    {below} − {above} = {int(below - above)} {int(delay)}
+    {added_up(WAVE_ABOVE, 2)} − {above}² = {d(wide, 1)} {added_up(WAVE_BELOW, 2)} − {below}² = {d(wider, 1)}
+    {d(wider, 1)} − {d(wide, 1)} = {d(wider - wide, 1)} {n(int(spread))} {int(float(spread) ** 0.5 + 0.5)}
+    {int(delay)}² / {n(int(spread))} = {d(delay ** 2 / spread)} {count} {int(delay)} / {count} = {int(delay / count)}
+    60 {int(delay)} {heads} {" ".join(rows)} {" ".join(f"{each:.1f}" for each in errors)}"""
 
 
 def hex_fields(record, *ends):
@@ -1143,7 +1295,7 @@ def figures_to_try():
     1 1 {refused_with(down=1)} {n(3_000)} {n(3_001)} {refused_with(rain=3_001)} {n(30_000)} {n(30_001)} {refused_with(stage=30_001)}
     {n(CEILING)} {n(CEILING + 1)} {refused_with(release=CEILING + 1)} {n(30_001)}
     {refused_with(release=CEILING + 1, stage=30_001)}
-    {noises_to_try()} {tables_to_try()}
+    {noises_to_try()} {tables_to_try()} {tanks_to_try()}
     36 60 60 {n(1_000)} {n(1_000)} 100 {more_rain_to_try()}"""
 
 
@@ -1195,6 +1347,25 @@ def tables_to_try():
     return f"0 3 {refused(3)} 64 16 {n(one)} 1 {n(two)} 2 1 {n(one + 1)} {n(two)} {refused(1, two)} {n(two + 1)} {refused(2, two + 1)}"
 
 
+def tanks_to_try():
+    """Counts and fields that rule 5 takes and refuses, and a step of two tanks."""
+    def refused(**changes):
+        tanks = dict(kind=TANKS, lag=60, f=2) | changes
+        gauges = [dict(element=2, R=1_000, pieces=[(LAST_TOP, 1, 0)])]
+        table = dict(T=60, L=1, elements=[dict(kind=REACH, lag=60, down=2), tanks], gauges=gauges)
+        return tried_figures.refusal(RULES.start, table_bytes(table), State())
+
+    wrong = {refused(f=count) for count in (0, 1, 9, 258)} | {refused(area=1), refused(G=1), refused(lag=59)}
+    (number,), lag, T = wrong, 60, 60
+    assert not refused(f=2) and not refused(f=8)
+    element, rules = dict(kind=TANKS, lag=lag, f=2, first_discharge=10 ** 6, first_variance=300, W=10), Noted()
+    two = table_bytes(dict(T=T, L=1, elements=[element], gauges=[]))
+    second, first = rules.step(two, record_bytes((), ()), RULES.start(two, State())).figures[:2]
+    old, new, inflow = 10 ** 6, first.discharge, rules.moves[1].inflow
+    return f"""2 8 0 1 9 258 {number} 1 1 60 59 {lag} {T} {n(old)} 300 10 {figures_written(first)}
+    [({n(old)} + {n(new)}) / 2] = {n(inflow.discharge)} [(0 + {first.margin}) / 2] + 1 = {inflow.margin} {figures_written(second)}"""
+
+
 def refused_with(down=0, rain=3_000, release=0, stage=30_000):
     """What the program prints last for one small basin, its gauge and a dam: the refusal's number, or nothing where the record passes."""
     elements = [dict(kind=1, down=down, lag=60, area=10, f=1_000), dict(kind=3)]
@@ -1209,7 +1380,10 @@ def worked():
             "from bits to millimetres": from_bits, "every pattern that a gauge can send": every_pattern, "one look along a curve": one_look,
             "the noise of a reading": noises_of_readings, "one reading": one_reading, "one reading at high water": high_water,
             "one step of a river": one_step, "one lead": one_lead, "the mean of the last rains": later_rains, "a trial": a_trial,
-            "a river with a dam": river_with_a_dam, "two storms": two_storms, "a tenth more rain on the sample river": a_tenth_more_rain,
+            "a river with a dam": river_with_a_dam,
+            "a reach of three tanks": chain_of_tanks, "where tanks stand in the state": tank_places,
+            "how tanks flatten a wave": flattened_wave, "how many tanks": tanks_chosen, "two storms": two_storms,
+            "a tenth more rain on the sample river": a_tenth_more_rain,
             "the weight's 3": weight_errors,
             "margins of the sample river": sample_margins, "noise from a doubt": noises, "R and β from gaugings": from_gaugings,
             "what β does to the gain": gains, "several β on the sample river": several_betas, "where a noise passes C": highest_noise,

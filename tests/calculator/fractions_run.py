@@ -1,5 +1,6 @@
 """Document 01, "The run in fractions", with M-100's dams, M-102's trials, M-103's unrounded half sums, M-104's floats, of which it takes
-the whole millimetres, and M-105's noise, which is given to it: the same steps with exact F, no rounding, no margins and no ceiling.
+the whole millimetres, M-105's noise, which is given to it, and M-107's tanks: the same steps with exact F, no rounding, no margins and no
+ceiling.
 
 It is fed an accepted table, the records of accepted steps and nothing else, decodes them by itself and keeps its own state, so that it
 shares no line with whole_numbers.py.
@@ -26,6 +27,10 @@ def stage_of(version, sent):
     if sent == (0x7FC0_0000 if version == 2 else 65_535):
         return None
     return floor(Fraction(*unpack(">f", pack(">I", sent))) * 1_000 + Fraction(1, 2)) if version == 2 else sent
+
+
+def last_tanks(stores):
+    return [tanks[-1] for tanks in stores]
 
 
 class ExactNumbers:
@@ -100,7 +105,8 @@ class EnclosedNumbers:
 
 
 class FractionsRun:
-    """The run on one accepted table; `figures` holds (discharge, variance) by element, `steps` the step count."""
+    """The run on one accepted table; `stores` holds by element its tanks, the uppermost first, each as (discharge, variance): one where it
+    is not made of several (M-107). `steps` is the step count."""
 
     def __init__(self, table, numbers=ExactNumbers()):
         self.numbers = numbers
@@ -119,32 +125,47 @@ class FractionsRun:
 
     def start(self):
         self.steps = 0
-        self.figures = [(self.numbers.of(element[5]), self.numbers.of(element[6])) for element in self.elements]
+        self.stores = [[(self.numbers.of(element[5]), self.numbers.of(element[6]))] * tanks
+                       for element, tanks in zip(self.elements, self.tank_counts())]
         self.rains = {place: [] for place in self.basins}
         self.read = set()
 
-    def moved(self, figures, rain_inflow, releases, readings):
+    @property
+    def figures(self):
+        """(discharge, variance) by element: those of its last tank."""
+        return last_tanks(self.stores)
+
+    def tank_counts(self):
+        """By element: how many tanks it has, which for kind 4 stands in the f field."""
+        return [element[4] if element[0] == 4 else 1 for element in self.elements]
+
+    def mean_inflow(self, above):
+        """M-103: half of what came before and after from (before, after) of each above, and the variance of what came after."""
+        before = after = variance = self.numbers.of(0)
+        for (old_discharge, _), (new_discharge, new_variance) in above:
+            before, after, variance = before + old_discharge, after + new_discharge, variance + new_variance
+        return self.numbers.mix(Fraction(1, 2), before, after), variance
+
+    def moved(self, stores, rain_inflow, releases, readings):
         """One step of all elements: rain_inflow(place) gives a basin's inflow and its variance; by place, releases has a dam's discharge,
         readings z and its noise."""
         new = []
         for place, (kind, _, lag, _, _, _, _, system_noise, _) in enumerate(self.elements):
             if kind == 3:
-                new.append((releases[place], self.numbers.of(system_noise)))
+                new.append([(releases[place], self.numbers.of(system_noise))])
                 continue
             if kind == 1:
-                inflow, inflow_variance = map(self.numbers.of, rain_inflow(place))
+                inflow = tuple(map(self.numbers.of, rain_inflow(place)))
             else:
-                before = after = inflow_variance = self.numbers.of(0)
-                for higher in self.above[place]:
-                    before, after = before + figures[higher][0], after + new[higher][0]
-                    inflow_variance += new[higher][1]
-                inflow = self.numbers.mix(Fraction(1, 2), before, after)
-            weight = exact_weight(self.step_minutes, lag)
-            x = self.numbers.mix(weight, figures[place][0], inflow)
-            v = self.numbers.square_mix(weight, figures[place][1], inflow_variance) + self.numbers.of(system_noise)
+                inflow = self.mean_inflow([(stores[higher][-1], new[higher][-1]) for higher in self.above[place]])
+            weight, tanks = exact_weight(self.step_minutes, lag), []
+            for x, v in stores[place]:
+                tanks.append((self.numbers.mix(weight, x, inflow[0]),
+                              self.numbers.square_mix(weight, v, inflow[1]) + self.numbers.of(system_noise)))
+                inflow = self.mean_inflow([((x, v), tanks[-1])])  # of the next tank, if there is one
             if place in readings:
-                x, v = self.numbers.corrected(x, v, *map(self.numbers.of, readings[place]))
-            new.append((x, v))
+                tanks[-1] = self.numbers.corrected(*tanks[-1], *map(self.numbers.of, readings[place]))
+            new.append(tanks)
         return new
 
     def given_noise(self, noise, beta, z):
@@ -171,11 +192,11 @@ class FractionsRun:
         def rain_inflow(place):
             return Fraction(5 * rains[place] * self.elements[place][3] * self.elements[place][4], 18), 0
 
-        return self.moved(self.figures, rain_inflow, releases, readings)
+        return self.moved(self.stores, rain_inflow, releases, readings)
 
     def step(self, record):
         rains, releases, readings = self.step_input(record)
-        self.figures = self.stepped(rains, releases, readings)
+        self.stores = self.stepped(rains, releases, readings)
         self.read |= readings.keys()
         self.steps += 1
         for place in self.basins:
@@ -183,11 +204,11 @@ class FractionsRun:
 
     def trial(self, record):
         """(discharge, variance) by element as a step would leave them; the run itself stays."""
-        return self.stepped(*self.step_input(record))
+        return last_tanks(self.stepped(*self.step_input(record)))
 
     def forecast(self):
         """(discharge, variance) by lead 0 to L, then by element; the run itself stays."""
-        by_lead, held = [self.figures], {place: self.figures[place][0] for place in self.dams}
+        by_lead, held = [self.stores], {place: self.stores[place][0][0] for place in self.dams}
         for lead in range(1, self.leads + 1):
 
             def rain_inflow(place):
@@ -196,7 +217,7 @@ class FractionsRun:
                 return mean * 5 * area * runoff / 18, lead * rain_noise
 
             by_lead.append(self.moved(by_lead[-1], rain_inflow, held, {}))
-        return by_lead
+        return list(map(last_tanks, by_lead))
 
     def places_above(self):
         """By place: the set of all places at or above it."""
@@ -205,3 +226,8 @@ class FractionsRun:
             if element[1]:
                 sets[element[1] - 1] |= sets[place]  # all above an element stand before it
         return sets
+
+    def counts_above(self):
+        """By place: c of the limit 16 x n x c: the elements at or above it, of which every tank counts (M-107)."""
+        tanks = self.tank_counts()
+        return [sum(tanks[higher] for higher in places) for places in self.places_above()]

@@ -31,6 +31,16 @@ def check_noise():
         assert RULES.noise(Gauge(1, 1, R, (), beta), z) == noise, (beta, R, z)
 
 
+def check_tanks():
+    """M-107, by hand: a step of two tanks of lag 60 with nothing draining in, from 1,000,000 and a variance of 300, W being 10. The second
+    takes half of 1,000,000 and 367,879, margin [(0 + 3) / 2] + 1, and the variance 50."""
+    two = table_bytes(dict(T=60, L=1, elements=[dict(kind=4, lag=60, f=2, first_discharge=1_000_000, first_variance=300, W=10)], gauges=[]))
+    moved = RULES.step(two, record_bytes((), ()), RULES.start(two, State()))
+    assert moved.figures[1] == Figures(367_879, 3, 50, 6)
+    assert RULES.tank_inflow(Figures(1_000_000, 0, 300, 0), moved.figures[1]) == Figures(683_939, 2, 50, 6)
+    assert moved.figures[0] == Figures(800_211, 4, 70, 7)
+
+
 def check():
     """Raises AssertionError where a figure does not come out."""
     floats.check()
@@ -44,6 +54,7 @@ def check():
     curve = decode_table(one_reach([(1_000, 1, 0), (30_001, 2, 0)])).gauges[0]
     assert RULES.look(curve, 999) == (0, 998, 1, 1) and RULES.look(curve, 1_000) == (0, 2_000, 1, 2)
     check_noise()
+    check_tanks()
     assert refusal(RULES.start, one_reach([(30_001, 1, 0)], down=1), State()) == 6
     deep = one_reach([(30_001, 1, 0)])
     started = RULES.start(deep, State())
