@@ -5,13 +5,15 @@
  *   calls FILE count CALLS LIBRARY    LIBRARY is 0 for the proved one, 1 for plain C
  *
  * times: every call is made by both and the replies must be equal, also of some that are refused. Then both are timed in turn, all but
- * river_rate, a round being about a thousandth of a second of processor time (no round: the replies alone). For each entry it prints its
- * name, the medians over the rounds in nanoseconds for a call (library, plain C), the median of the rounds' ratios, and the library's least
- * time.
+ * river_rate, a round being about a thousandth of a second of processor time for each of them (no round: the replies alone); the library
+ * goes first in one round, plain C in the next. Before each pass over the records both are given the same places of a state. For each entry
+ * it prints its name, the medians over the rounds in nanoseconds for a call (library, plain C), the median of the rounds' ratios, and the
+ * library's least time.
  * count: so many calls of each entry are made by the function count_calls, whose calls bench/run has counted; after each round as many
  * numbers as a trial answers are copied by write_out.
  */
 #define _GNU_SOURCE
+#include <stddef.h>
 #include <stdio.h>
 #include <stdlib.h>
 #include <string.h>
@@ -42,7 +44,7 @@ enum { MOST_BYTES = 1 << 20, MOST_CALLS = 64, MOST_ROUNDS = 1000 };
 
 /* The river: its table, the records, and the state before each of these. */
 static uint8_t input[MOST_BYTES];
-static size_t table_bytes, record_bytes, calls;
+static size_t table_bytes, record_bytes, calls, places;
 static const uint8_t *records[MOST_CALLS];
 static river_state states[MOST_CALLS + 1];
 static uint64_t numbers[2][RIVER_MOST_NUMBERS];
@@ -116,11 +118,21 @@ static void same_shows(size_t count)
     for (uint64_t more = 0; more < 2; more++) same_show(4000000000 + more, 1), same_show(1, 4000000000 + more);
 }
 
-/* Makes all calls once, which fills `states`. */
+/* A state that rule 8 may refuse, for a number of one of its places. */
+static void same_judged(const uint8_t *record, river_state state, size_t place, uint64_t margin)
+{
+    state.place[place].figures.variance_margin = margin;
+    same_step(record, record_bytes, state);
+    same_forecast(&state, RIVER_MOST_NUMBERS);
+    same_trial(record, record_bytes, &state, RIVER_MOST_NUMBERS);
+}
+
+/* Makes all calls once, which fills `states`. What a state holds beyond its places in use is above the ceiling. */
 static void compare_calls(void)
 {
     same_check(table_bytes - 1), same_check(table_bytes);
     same_rates(table_bytes - 1), same_rates(table_bytes);
+    memset(&states[0], 0x5A, sizeof states[0]);
     same_start(table_bytes - 1, &states[0]), same_start(table_bytes, &states[0]);
     for (size_t k = 0; k < calls; k++) {
         states[k + 1] = same_step(records[k], record_bytes, states[k]);
@@ -133,11 +145,10 @@ static void compare_calls(void)
         same_trial(records[k], record_bytes, &states[k], 4 * states[k].elements - 1);
         same_trial(records[k], record_bytes - 1, &states[k], RIVER_MOST_NUMBERS);
         same_step(records[k], record_bytes - 1, states[k]);
-        river_state wrong = states[k];
-        wrong.place[0].figures.variance = 4000000001;
-        same_step(records[k], record_bytes, wrong);
-        same_forecast(&wrong, RIVER_MOST_NUMBERS);
-        same_trial(records[k], record_bytes, &wrong, RIVER_MOST_NUMBERS);
+        for (uint64_t more = 0; more < 2; more++) {
+            same_judged(records[k], states[k], 0, 4000000000 + more);
+            same_judged(records[k], states[k], places - 1, 4000000000 + more);
+        }
     }
 }
 
@@ -158,7 +169,7 @@ static void start_all(const Library *library)
 
 static void step_all(const Library *library)
 {
-    moved = states[0];
+    memcpy(&moved, &states[0], offsetof(river_state, place) + places * sizeof *moved.place);
     for (size_t k = 0; k < calls; k++) refusals += library->step(input, table_bytes, records[k], record_bytes, &moved);
 }
 
@@ -237,7 +248,10 @@ static void print_times(const char *entry, void (*all)(const Library *), int rou
     double once = timed(all, &libraries[1], 3) * (double)calls;
     int passes = once > 1e6 ? 1 : (int)(1e6 / once) + 1;
     for (int round = 0; round < rounds; round++) {
-        for (int k = 0; k < 2; k++) times[k][round] = timed(all, &libraries[k], passes);
+        for (int k = 0; k < 2; k++) {
+            int which = (round + k) % 2;
+            times[which][round] = timed(all, &libraries[which], passes);
+        }
         ratios[round] = times[0][round] / times[1][round];
     }
     printf("%s %.0f %.0f %.3f", entry, median(times[0], rounds), median(times[1], rounds), median(ratios, rounds));
@@ -264,6 +278,8 @@ static void read_river(const char *path)
     if (table_bytes + 2 > size) fail("the table is cut");
     record_bytes = 2 + big_endian(input + table_bytes, 2);
     for (size_t at = table_bytes; at + record_bytes <= size && calls < MOST_CALLS; at += record_bytes) records[calls++] = input + at;
+    places = river_check(input, table_bytes).places;
+    if (!places) fail("the table is refused");
 }
 
 int main(int argc, char **argv)

@@ -18,7 +18,7 @@ river_plan NAMED(check)(const uint8_t *table, size_t table_bytes)
     Table t;
     u32 refusal = read_table(&t, table, table_bytes);
     if (refusal) return (river_plan){.refusal = refusal};
-    return (river_plan){0, t.count, t.leads, t.gauge_count, t.basin_count, t.dam_count,
+    return (river_plan){0, t.count, t.leads, t.gauge_count, t.basin_count, t.dam_count, t.inner_count, t.count + t.inner_count,
                         3 + 2 * t.basin_count + 4 * t.dam_count + 2 * t.gauge_count, 4 * t.count * (t.leads + 1), t.step_minutes};
 }
 
@@ -41,33 +41,56 @@ static INLINE u32 judge_step(Table *t, const u8 *table, size_t table_bytes, cons
     return refusal;
 }
 
+/* The working out of a step and a trial, and the same for a river with tanks. */
+static INLINE int work(const Table *t, const u8 *record, const Reading *readings, const river_state *state, Figures *space, int with_tanks)
+{
+    u64 weights[MOST_ELEMENTS];
+    weigh(t, weights);
+    return step_elements(t, weights, record + 3, readings, state, space, with_tanks);
+}
+
+static APART u64 step_tanks(const Table *t, const u8 *record, const Reading *readings, river_state *state)
+{
+    Figures space[MOST_IN_USE + 1];
+    if (work(t, record, readings, state, space, 1)) return 16;
+    set_next_values(t, record + 3, space, state);
+    set_next_tanks(t, space, state);
+    return 0;
+}
+
 uint64_t NAMED(step)(const uint8_t *table, size_t table_bytes, const uint8_t *record, size_t record_bytes, river_state *state)
 {
     Table t;
-    u64 weights[MOST_PLACES];
     Reading readings[MOST_GAUGES + 1];
-    Figures space[MOST_PLACES + 1];
+    Figures space[MOST_ELEMENTS + 1];
     u32 refusal = judge_step(&t, table, table_bytes, record, record_bytes, state, readings);
     if (refusal) return refusal;
-    weigh(&t, weights);
-    if (step_elements(&t, weights, record + 3, readings, state, space)) return 16;
+    if (t.inner_count) return step_tanks(&t, record, readings, state);
+    if (work(&t, record, readings, state, space, 0)) return 16;
     set_next_values(&t, record + 3, space, state);
     return 0;
+}
+
+static APART river_written try_tanks(const Table *t, const u8 *record, const Reading *readings, const river_state *state, u64 *numbers)
+{
+    Figures space[MOST_IN_USE + 1];
+    if (work(t, record, readings, state, space, 1)) return (river_written){16, 0};
+    memcpy(numbers, space + 1, sizeof *space * t->count);
+    return (river_written){0, 4 * t->count};
 }
 
 river_written NAMED(trial)(const uint8_t *table, size_t table_bytes, const uint8_t *record, size_t record_bytes, const river_state *state,
                            uint64_t *numbers, size_t numbers_lent)
 {
     Table t;
-    u64 weights[MOST_PLACES];
     Reading readings[MOST_GAUGES + 1];
-    Figures space[MOST_PLACES + 1];
+    Figures space[MOST_ELEMENTS + 1];
     u32 refusal = judge_step(&t, table, table_bytes, record, record_bytes, state, readings);
     if (refusal) return (river_written){refusal, 0};
     size_t count = 4 * t.count;
     if (numbers_lent < count) return (river_written){15, 0};
-    weigh(&t, weights);
-    if (step_elements(&t, weights, record + 3, readings, state, space)) return (river_written){16, 0};
+    if (t.inner_count) return try_tanks(&t, record, readings, state, numbers);
+    if (work(&t, record, readings, state, space, 0)) return (river_written){16, 0};
     memcpy(numbers, space + 1, sizeof *numbers * count);
     return (river_written){0, count};
 }
@@ -75,8 +98,8 @@ river_written NAMED(trial)(const uint8_t *table, size_t table_bytes, const uint8
 river_written NAMED(forecast)(const uint8_t *table, size_t table_bytes, const river_state *state, uint64_t *numbers, size_t numbers_lent)
 {
     Table t;
-    u64 weights[MOST_PLACES];
-    Figures space[(MOST_PLACES + 1) * (MOST_LEADS + 1)];
+    u64 weights[MOST_ELEMENTS];
+    Figures space[(MOST_ELEMENTS + 1) * (MOST_LEADS + 1)];
     u32 refusal = read_table(&t, table, table_bytes);
     if (!refusal) refusal = judge_state(&t, state);
     if (refusal) return (river_written){refusal, 0};
