@@ -11,7 +11,7 @@ import re
 # A law that would have the name of the definition it is about.
 LAWS = {"none_left": "none_left_lem"}
 LAW_FILES = ("crates/progress/proofs/TestLaws.antt", "crates/progress/proofs/has_ended/Proof.antt", "crates/program_run/proofs/ToPrintLaws.antt")
-WORD = re.compile(r"[A-Za-z_][\w'*-]*")
+WORD = re.compile(r"(?<![\w'])[A-Za-z_][\w'*-]*")
 CAMEL = re.compile(r"(?<=[a-z0-9])([A-Z])")
 
 

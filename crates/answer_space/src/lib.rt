@@ -1,4 +1,6 @@
 // The working space of a step or a forecast: the figures of one element, four numbers at each place; an answer's numbers copied.
+#![tactic(auto)]
+
 ghost use Rattle.std.specs.Prelude.{◌≡◌, ◌+◌, ◌*◌, ◌≤◌, ◌<◌, length, drop};
 ghost use Rattle.std.proofs.Math.Seq.{paste};
 ghost use Rattle.sizes.specs.Sizes.{most_elements};

@@ -1,1 +1,2 @@
 // Definitions and theorems alone: the cells of a river.
+#![tactic(auto)]

@@ -1,1 +1,2 @@
 // The mission's third property, about every list of steps and forecasts: definitions and the theorem.
+#![tactic(auto)]

@@ -1,4 +1,6 @@
 // The correction of one element by a reading.
+#![tactic(auto)]
+
 ghost use Rattle.std.specs.Prelude.{◌≡◌, ◌≤◌};
 ghost use Rattle.units.specs.Units.{C};
 ghost use Rattle.weighting.specs.Estimates.{EstimateFits};

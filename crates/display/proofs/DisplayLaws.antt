@@ -30,7 +30,7 @@ million : of_int binary64 (pos 1_000_000) ≡ fin false 15625 (pos 6)
 unfolding of_int
 million = refl
 
-pub divisor : of_bits binary64 0x412_e_8480_0000_0000 ≡ of_int binary64 (pos 1_000_000)
+pub divisor : of_bits binary64 0x412E_8480_0000_0000 ≡ of_int binary64 (pos 1_000_000)
 unfolding of_int of_bits
 divisor = refl
 

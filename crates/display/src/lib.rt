@@ -1,4 +1,6 @@
 // A figure for the wall display: a discharge and its margin as floats in m³/s.
+#![tactic(auto)]
+
 ghost use Rattle.std.specs.Prelude.{◌≡◌, ◌≤◌};
 ghost use Rattle.units.specs.Units.{C};
 ghost use Rattle.display.specs.Display.{cubic_metres, shown_answer, show_answer};

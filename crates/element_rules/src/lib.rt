@@ -1,4 +1,6 @@
 // Rule 5: the fields of an element.
+#![tactic(auto)]
+
 ghost use Rattle.std.specs.Prelude.{◌≡◌, ◌&&◌, eqb};
 ghost use Rattle.elements.specs.Rules.{lag_fits, basin_fits, reach_fits, dam_fits, tanks_fit};
 ghost use Rattle.elements.specs.Kinds.{tanks};

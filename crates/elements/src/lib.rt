@@ -1,4 +1,6 @@
 // The elements of a table.
+#![tactic(auto)]
+
 ghost use Rattle.std.specs.Prelude.{◌≡◌, ◌+◌, ◌*◌, ◌-◌, ◌≤◌, length};
 ghost use Rattle.elements.specs.Elements.{element_at};
 ghost use Rattle.elements.specs.Kinds.{tanks, basin_of, extra_tanks};

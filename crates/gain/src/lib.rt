@@ -1,4 +1,6 @@
 // The gain of a reading, and its margin.
+#![tactic(auto)]
+
 ghost use Rattle.std.specs.Prelude.{◌≡◌, ◌≤◌};
 ghost use Rattle.units.specs.Units.{C, S};
 ghost use Rattle.weighting.specs.Estimates.{EstimateFits};

@@ -1,4 +1,5 @@
 // The gauges of a table.
+#![tactic(auto)]
 ghost use Rattle.std.specs.Prelude.{◌≡◌, ◌+◌, ◌≤◌, ◌<◌, length};
 ghost use Rattle.gauges.specs.Gauges.{offset_of, piece_at, gauge_size, beta_at, gauge_place, gauge_at};
 ghost use Rattle.gauges.specs.Places.{Versioned, GaugeThere, GaugePlaced};

@@ -1,1 +1,2 @@
 // Two trials that differ in one gauge's reading: definitions and the theorem.
+#![tactic(auto)]

@@ -1,4 +1,6 @@
 // The inflow of an element: a basin's from rain, a reach's from what drains in; what old figures bring to it.
+#![tactic(auto)]
+
 ghost use Rattle.std.specs.Prelude.{◌≡◌, ◌/◌, ◌≤◌};
 ghost use Rattle.method.specs.Figures.{figures_answer, AnsweredFiguresFit};
 ghost use Rattle.method.specs.Inflow.{mean_rain_inflow, old_outflow, reach_inflow, inflow_answer};

@@ -1,4 +1,6 @@
 // The four figures of an element or an inflow, and their judgement by the ceiling.
+#![tactic(auto)]
+
 ghost use Rattle.std.specs.Prelude.{◌≡◌};
 ghost use Rattle.method.specs.Figures.{discharge, variance, figures, figures_answer, AnsweredFiguresFit};
 ghost use Rattle.method.specs.Inflow.{inflow_answer};

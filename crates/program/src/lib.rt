@@ -1,1 +1,2 @@
 // What the program prints for an input: definitions.
+#![tactic(auto)]

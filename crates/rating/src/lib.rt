@@ -1,4 +1,6 @@
 // From a stage to a discharge, on a piece of the rating curve of a gauge, and to the noise of a reading there.
+#![tactic(auto)]
+
 ghost use Rattle.std.specs.Prelude.{◌≡◌, ◌≤◌};
 ghost use Rattle.units.specs.Units.{C};
 ghost use Rattle.units.specs.Answers.{discharge_answer};

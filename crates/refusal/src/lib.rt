@@ -1,4 +1,6 @@
 // The numbers for no, and whether a call is accepted.
+#![tactic(auto)]
+
 ghost use Rattle.std.specs.Prelude.{◌≡◌};
 ghost use Rattle.refusal.specs.Refusals.{number};
 

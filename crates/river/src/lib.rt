@@ -1,4 +1,5 @@
 // The engine for programs in C or Rust: document 01's entries on memory that the host lends. include/river.h declares them for C.
+#![tactic(auto)]
 ghost use Rattle.std.specs.Prelude.{◌≡◌, length};
 ghost use Rattle.refusal.specs.Answers.{accepted};
 ghost use Rattle.refusal.specs.Verdicts.{verdict_answer};

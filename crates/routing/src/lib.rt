@@ -1,4 +1,6 @@
 // The move of one element, in parts that the compiler puts into each caller.
+#![tactic(auto)]
+
 ghost use Rattle.std.specs.Prelude.{◌≡◌, ◌≤◌};
 ghost use Rattle.units.specs.Units.{C, S};
 ghost use Rattle.weighting.specs.Estimates.{estimate, estimate_answer, EstimateFits, AnsweredEstimateFits};

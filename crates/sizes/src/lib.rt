@@ -1,5 +1,6 @@
 // The largest counts that document 01 allows, and the sizes that follow from them; nowhere else do these numbers stand.
 // specs/Sizes.antt has the same for the definitions.
+#![tactic(auto)]
 
 // N, L and M at most.
 pub const MOST_ELEMENTS: usize = 64;

@@ -1,4 +1,5 @@
 // A table, and its header: rules 1 to 4.
+#![tactic(auto)]
 ghost use Rattle.std.specs.Prelude.{◌≡◌, ◌≤◌, length};
 ghost use Rattle.gauges.specs.Places.{Versioned};
 ghost use Rattle.table.specs.Tables.{table_of};

@@ -1,4 +1,6 @@
 // Numbers and bytes as text, put into lent space.
+#![tactic(auto)]
+
 ghost use Rattle.std.specs.Prelude.{[], ◌∷◌, ◌++◌, ◌≡◌, ◌+◌, ◌≤◌, ◌<◌, length};
 ghost use Rattle.text.specs.Decimal.{last_digits, decimal};
 ghost use Rattle.text.specs.Fours.{pair_of, fours_below, word_bytes};

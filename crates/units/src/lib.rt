@@ -1,4 +1,6 @@
 // Discharge, variance and stage as types of their own, and the ceiling that their constructors hold them under.
+#![tactic(auto)]
+
 ghost use Rattle.std.specs.Prelude.{◌≡◌, [], ◌∷◌};
 ghost use Rattle.units.specs.Units.{grains, thousandths};
 ghost use Rattle.units.specs.Ceiling.{under_ceiling};

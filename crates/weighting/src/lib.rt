@@ -1,4 +1,6 @@
 // A number with its margin; the series weight of an element, and the blend by a weight.
+#![tactic(auto)]
+
 use refusal::Refusal;
 
 pub mod weight; // weight.rt: the series weight H of an element

@@ -1,0 +1,16 @@
+-- The loop of `put_element`.
+-- `put_element` meets its contract.
+use Prim.Native.Nat.{ℕ, ◌+◌, ◌*◌, ◌-◌, ◌≤◌}
+use mathlib.Core.List.{List}
+use mathlib.Core.Path.{◌≡◌, refl, ap, ◌∙◌}
+use native.Mathlib.Omega.{arith}
+use lib.ListN.{length, take}
+use Rattle.text.specs.Places.{Put}
+use Rattle.text.proofs.PlacesLaws.{put-before, put_same}
+use Rattle.lines.specs.Printed.{joined}
+use Rattle.lines.specs.Starts.{line_after, lines_after}
+use Rattle.lines.proofs.PrintedLaws.{joined-none, joined-more, joined-all, fewer-under}
+use Rattle.lines.proofs.put_element.Given as goal
+
+abbrev pub invariant-loop-lead : goal.invariant-loop-lead
+invariant-loop-lead l = (l.lead ≤ l.leads) × ((l.next ≤ l.at + 147 * l.lead) × ((length l.out ≡ length l.initial.out) × Put l.initial.out l.at (joined (line_of (take l.whole l.start) l.i l.leads l.numbers) l.lead) l.out l.next))

@@ -1,0 +1,10 @@
+-- `put_figures` meets its contract.
+use borrow.Author.Rules.{rules}
+use Prim.Native.Nat.{◌+◌}
+use native.Mathlib.Omega.{arith}
+use Rattle.lines.proofs.PrintedLaws.{figures-put}
+use Rattle.lines.proofs.put_figures.Goals as goal
+
+pub returns : goal.returns
+returns c =
+    (figures-put c.args.numbers.now c.args.from c.put_figure-p1.ensures.0 c.put_figure-p2.ensures.0 c.put_figure-p3.ensures.0 c.put_figure.ensures.0, omega arith)
