@@ -50,13 +50,13 @@ module _ (curve : Curve) where
       (j : ℕ) {fit : Bool}
       → all_below (piece_fits curve) j ≡ true
       → fit ≡ piece_fits curve j
-      → not fit ≡ false
+      → fit ≡ true
       → all_below (piece_fits curve) (j + 1) ≡ true
-  piece-kept j {fit} all e h = sym (all_more _ j (sym all) (sym (not-false fit h) ∙ e))
+  piece-kept j {fit} all e h = sym (all_more _ j (sym all) (sym h ∙ e))
 
   pub piece-broken :
-      (j n : ℕ) {fit : Bool} → j < n → fit ≡ piece_fits curve j → not fit ≡ true → all_below (piece_fits curve) n ≡ false
-  piece-broken j n {fit} l e h = all-fails _ n j l (sym e ∙ not-true fit h)
+      (j n : ℕ) {fit : Bool} → j < n → fit ≡ piece_fits curve j → fit ≡ false → all_below (piece_fits curve) n ≡ false
+  piece-broken j n {fit} l e h = all-fails _ n j l (sym e ∙ h)
 
   -- a curve with a piece that does not fit, or with another last top
   pub all-broken : all_below (piece_fits curve) 5 ≡ false → curve_fits curve ≡ false

@@ -1,5 +1,6 @@
 // Rule 7 on a gauge's curve, read where it stands in the table.
 #![tactic(auto)]
+
 ghost use Rattle.std.specs.Prelude.{◌≡◌};
 ghost use Rattle.gauges.specs.Gauges.{curve_at};
 ghost use Rattle.gauges.specs.Places.{GaugeThere};

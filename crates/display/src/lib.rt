@@ -9,13 +9,13 @@ use refusal::Refusal;
 use units::{Discharge, DischargeAnswer};
 
 // A discharge and its margin in m³/s.
-#[derive(Drop)]
+#[derive(Clone, Copy)]
 pub struct Shown {
     pub discharge: f64,
     pub margin: f64,
 }
 
-#[derive(Drop)]
+#[derive(Clone, Copy)]
 pub enum ShownAnswer {
     Accepted(Shown),
     Refused(Refusal),

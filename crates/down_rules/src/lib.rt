@@ -1,5 +1,6 @@
 // Rule 6: where an element drains to.
 #![tactic(auto)]
+
 ghost use Rattle.std.specs.Prelude.{◌≡◌, ◌+◌, ◌*◌, ◌≤◌, ◌<◌, length};
 ghost use Rattle.sizes.specs.Sizes.{most_elements};
 ghost use Rattle.elements.specs.Elements.{element_at};

@@ -11,7 +11,7 @@ use fields::range::in_range;
 use units::{Discharge, Variance};
 
 // What rule 5 says of an element: it is refused, or it is of one of the kinds.
-#[derive(Drop)]
+#[derive(Clone, Copy)]
 pub enum JudgedElement {
     Refused,
     Basin,

@@ -25,7 +25,7 @@ use units::{Discharge, Variance};
 
 // What an element takes in: its own number (a basin's inflow from rain, a dam's release, 0 for a reach), the number of the lead (0 at a
 // step), the sums of what drains in, and what its gauge observed.
-#[derive(Drop)]
+#[derive(Clone, Copy)]
 pub struct Intake {
     pub own: u64,
     pub lead: u64,

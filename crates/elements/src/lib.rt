@@ -19,7 +19,7 @@ pub const DAM: u64 = 3;
 pub const TANKS: u64 = 4;
 
 // An element of the table, of one of these kinds.
-#[derive(Drop)]
+#[derive(Clone, Copy)]
 pub struct Element {
     pub kind: u64,
     pub down: usize,

@@ -107,8 +107,8 @@ joined_same true false h = refl
 joined_same false b h = refl
 
 -- a test that the code worked out and found kept, or broken
-pub kept : {fit test : Bool} → fit ≡ test → not fit ≡ false → test ≡ true
-kept {fit} e h = sym e ∙ not-false fit h
+pub kept : {fit test : Bool} → fit ≡ test → fit ≡ true → test ≡ true
+kept e h = sym e ∙ h
 
-pub broken : {fit test : Bool} → fit ≡ test → not fit ≡ true → test ≡ false
-broken {fit} e h = sym e ∙ not-true fit h
+pub broken : {fit test : Bool} → fit ≡ test → fit ≡ false → test ≡ false
+broken e h = sym e ∙ h

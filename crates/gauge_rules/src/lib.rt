@@ -1,5 +1,6 @@
 // Rule 7: the gauges' fields and order.
 #![tactic(auto)]
+
 ghost use Rattle.std.specs.Prelude.{◌≡◌, ◌≤◌, length};
 ghost use Rattle.sizes.specs.Sizes.{most_elements, most_gauges};
 ghost use Rattle.fields.specs.Ranges.{all_below};

@@ -1,5 +1,6 @@
 // The gauges of a table.
 #![tactic(auto)]
+
 ghost use Rattle.std.specs.Prelude.{◌≡◌, ◌+◌, ◌≤◌, ◌<◌, length};
 ghost use Rattle.gauges.specs.Gauges.{offset_of, piece_at, gauge_size, beta_at, gauge_place, gauge_at};
 ghost use Rattle.gauges.specs.Places.{Versioned, GaugeThere, GaugePlaced};
@@ -10,7 +11,7 @@ use units::{Stage, Variance};
 
 // A gauge of the table: its curve, its noise R, β in thousandths and the element it stands at. The code reads each where it stands in the
 // table.
-#[derive(Drop)]
+#[derive(Clone, Copy)]
 pub struct Gauge {
     pub curve: Curve,
     pub noise: Variance,

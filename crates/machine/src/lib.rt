@@ -18,7 +18,7 @@ use text::put_bytes;
 
 // What a call has done: so many bytes of text are handed over; the run has ended; more input is asked for, to be put at a place; or the
 // table or a record has been answered, and the next call goes on.
-#[derive(Drop)]
+#[derive(Clone, Copy)]
 pub enum Next {
     Write(usize),
     End,
@@ -26,7 +26,7 @@ pub enum Next {
     Answer,
 }
 
-#[derive(Drop)]
+#[derive(Clone, Copy)]
 pub struct Turn {
     pub progress: Progress,
     pub next: Next,

@@ -11,7 +11,7 @@ use weighting::Estimate;
 
 // What an element holds or takes in: discharge and variance, each with its margin.
 #[repr(C)]
-#[derive(Drop)]
+#[derive(Clone, Copy)]
 pub struct Figures {
     pub discharge: Discharge,
     pub discharge_margin: Discharge,
@@ -19,7 +19,7 @@ pub struct Figures {
     pub variance_margin: Variance,
 }
 
-#[derive(Drop)]
+#[derive(Clone, Copy)]
 pub enum FiguresAnswer {
     Accepted(Figures),
     Refused(Refusal),

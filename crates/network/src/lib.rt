@@ -3,7 +3,7 @@
 use refusal::Refusal;
 
 // The count of numbers written, or the refusal.
-#[derive(Drop)]
+#[derive(Clone, Copy)]
 pub enum ForecastAnswer {
     Accepted(usize),
     Refused(Refusal),

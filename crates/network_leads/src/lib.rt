@@ -65,7 +65,7 @@ fn lead_input(
 }
 
 // How a run over elements ends: after the last; with a number above the ceiling; or before an element of tanks.
-#[derive(Drop)]
+#[derive(Clone, Copy)]
 enum RunEnd {
     Done,
     Above,

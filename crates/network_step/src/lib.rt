@@ -36,14 +36,14 @@ fn input_of(element: Element, weight: u64, own: u64, observation: Observation) -
 }
 
 // How many basins and dams a step has come past.
-#[derive(Drop)]
+#[derive(Clone, Copy)]
 struct Passed {
     basins: usize,
     dams: usize,
 }
 
 // What an element is worked out of, and the basins and dams with it.
-#[derive(Drop)]
+#[derive(Clone, Copy)]
 struct StepInput {
     input: ElementInput,
     passed: Passed,
@@ -110,7 +110,7 @@ fn add_old_outflow(table: &[u8], i: usize, state: &[u64; STATE_NUMBERS], space: 
 
 // How far a step has come: before which element, the place in the state of the next tank above the last of its element, and past how many
 // basins, dams and gauges.
-#[derive(Drop)]
+#[derive(Clone, Copy)]
 struct Reached {
     element: usize,
     tank: usize,
@@ -139,7 +139,7 @@ fn begun(n: usize) -> Reached
 }
 
 // How a run over elements ends: after the last; with a number above the ceiling; or before an element of tanks.
-#[derive(Drop)]
+#[derive(Clone, Copy)]
 enum RunEnd {
     Done,
     Above,

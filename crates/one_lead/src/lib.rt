@@ -18,7 +18,7 @@ use refusal::Refusal;
 
 // What a step or a forecast works out one element from: itself, its weight, its own number (a basin's inflow from rain, a dam's release, 0
 // for a reach), the number of the first lead (0 for a step, 1 for a forecast), and what its gauge observed.
-#[derive(Drop)]
+#[derive(Clone, Copy)]
 pub struct ElementInput {
     pub element: Element,
     pub weight: u64,
@@ -28,7 +28,7 @@ pub struct ElementInput {
 }
 
 // One lead of an element: its number, and the places of the element and of the one below it.
-#[derive(Drop)]
+#[derive(Clone, Copy)]
 pub struct Lead {
     pub number: u64,
     pub here: usize,

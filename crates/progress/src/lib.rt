@@ -11,7 +11,7 @@ use table::Counts;
 // Whether the table has been judged; the bytes of the input buffer that are read and not used yet, from one place to another; whether the
 // input has ended; how many records are left to be answered; the accepted table's counts and how many bytes it has; the place after the
 // text that is not handed over yet.
-#[derive(Drop)]
+#[derive(Clone, Copy)]
 pub struct Progress {
     pub judged: bool,
     pub from: usize,

@@ -12,14 +12,14 @@ use refusal::Refusal;
 use units::{Discharge, DischargeAnswer, Stage, Variance};
 
 // b of a piece, in millimetres of either sign.
-#[derive(Drop)]
+#[derive(Clone, Copy)]
 pub enum Offset {
     Plus(u64),
     Minus(u64),
 }
 
 // A piece of a rating curve: z = a (h + b)² / 1,000 for the stages h below its top.
-#[derive(Drop)]
+#[derive(Clone, Copy)]
 pub struct Piece {
     pub top: Stage,
     pub factor: u64,
@@ -27,7 +27,7 @@ pub struct Piece {
 }
 
 // The curve of a gauge; the pieces in use come first.
-#[derive(Drop)]
+#[derive(Clone, Copy)]
 pub struct Curve {
     pub count: usize,
     pub pieces: [Piece; 5],
@@ -35,7 +35,7 @@ pub struct Curve {
 
 // What one look along a curve finds: the discharge of the stage and the noise of a reading there, or the refusal of it, and with either how
 // many pieces were read.
-#[derive(Drop)]
+#[derive(Clone, Copy)]
 pub enum RatingAnswer {
     Accepted(Discharge, Variance, usize),
     Refused(Refusal, usize),

@@ -5,7 +5,7 @@ ghost use Rattle.std.specs.Prelude.{◌≡◌};
 ghost use Rattle.refusal.specs.Refusals.{number};
 
 // Document 01, Numbers for no, and document 02: one refusal for each number, in checking order.
-#[derive(Drop)]
+#[derive(Clone, Copy)]
 pub enum Refusal {
     TableLength,
     TableVersion,
@@ -56,7 +56,7 @@ impl Refusal {
 }
 
 // Whether a call's input is accepted.
-#[derive(Drop)]
+#[derive(Clone, Copy)]
 pub enum Verdict {
     Accepted,
     Refused(Refusal),

@@ -9,7 +9,7 @@ use lines::put_refusal;
 use refusal::Refusal;
 
 // The place after the text of a record or of a refused table, and whether it ends the run.
-#[derive(Drop)]
+#[derive(Clone, Copy)]
 pub struct TextAnswer {
     pub end: usize,
     pub ended: bool,

@@ -24,7 +24,7 @@ use table::Counts;
 // 0, or the number for no, and what a table asks the host to lend: its counts, the bytes of a record, the numbers of a forecast; and its
 // step in minutes.
 #[repr(C)]
-#[derive(Drop)]
+#[derive(Clone, Copy)]
 pub struct TablePlan {
     pub refusal: u64,
     pub elements: usize,
@@ -41,7 +41,7 @@ pub struct TablePlan {
 
 // 0, or the number for no, and how many numbers were written.
 #[repr(C)]
-#[derive(Drop)]
+#[derive(Clone, Copy)]
 pub struct Written {
     pub refusal: u64,
     pub count: usize,
@@ -49,7 +49,7 @@ pub struct Written {
 
 // 0, or the number for no, the discharge of a stage, the noise of a reading there, and how many pieces of the curve were read for it.
 #[repr(C)]
-#[derive(Drop)]
+#[derive(Clone, Copy)]
 pub struct Rating {
     pub refusal: u64,
     pub discharge: u64,
@@ -59,7 +59,7 @@ pub struct Rating {
 
 // 0, or the number for no, and a discharge and its margin in m³/s.
 #[repr(C)]
-#[derive(Drop)]
+#[derive(Clone, Copy)]
 pub struct Display {
     pub refusal: u64,
     pub discharge: f64,

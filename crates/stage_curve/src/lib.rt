@@ -1,5 +1,6 @@
 // One look along the rating curve of a gauge, whose pieces are read where they stand in the table.
 #![tactic(auto)]
+
 ghost use Rattle.std.specs.Prelude.{◌≡◌, ◌≤◌};
 ghost use Rattle.sizes.specs.Sizes.{most_elements};
 ghost use Rattle.units.specs.Answers.{discharge_answer};

@@ -1,6 +1,7 @@
 // The state of a river as numbers that the caller lends: N, the step count, then for each place four figures and three rains. What rule
 // 8 asks of a place, and rule 9.
 #![tactic(auto)]
+
 ghost use Rattle.std.specs.Prelude.{◌≡◌, ◌<◌, length};
 ghost use Rattle.sizes.specs.Sizes.{most_places, state_numbers};
 ghost use Rattle.state.specs.States.{figures_of, rains_of, place_of, put_figures, put_rains};
@@ -11,7 +12,7 @@ use sizes::{PLACE_NUMBERS, STATE_NUMBERS};
 use units::{Discharge, Variance};
 
 // A basin's last three rains, the latest first.
-#[derive(Drop)]
+#[derive(Clone, Copy)]
 pub struct Rains {
     pub first: u64,
     pub second: u64,

@@ -1,5 +1,6 @@
 // A table, and its header: rules 1 to 4.
 #![tactic(auto)]
+
 ghost use Rattle.std.specs.Prelude.{◌≡◌, ◌≤◌, length};
 ghost use Rattle.gauges.specs.Places.{Versioned};
 ghost use Rattle.table.specs.Tables.{table_of};
@@ -17,7 +18,7 @@ use sizes::{MOST_ELEMENTS, MOST_GAUGES, MOST_LEADS};
 
 // The counts of a table: T in minutes, L, N and M, how many of its elements are basins and dams, and how many tanks
 // stand above the last of their elements.
-#[derive(Drop)]
+#[derive(Clone, Copy)]
 pub struct Counts {
     pub step: u64,
     pub leads: usize,
@@ -29,7 +30,7 @@ pub struct Counts {
 }
 
 // The counts of a table, where its bytes are accepted.
-#[derive(Drop)]
+#[derive(Clone, Copy)]
 pub struct TableAnswer {
     pub verdict: Verdict,
     pub counts: Counts,

@@ -10,7 +10,7 @@ use sizes::{STATE_NUMBERS, TABLE_BYTES};
 use table::Counts;
 
 // The verdict on a table, its counts where it is accepted, and how many bytes of the input it has.
-#[derive(Drop)]
+#[derive(Clone, Copy)]
 pub struct TableStart {
     pub verdict: Verdict,
     pub counts: Counts,

@@ -16,7 +16,7 @@ use table::{Counts, TableAnswer};
 
 // What rules 5 and 6 say of the elements: whether all keep rule 5 and, where they do, whether all keep rule 6, how many are basins and
 // dams, and how many tanks stand above the last of their elements.
-#[derive(Drop)]
+#[derive(Clone, Copy)]
 struct ElementsJudged {
     fit: bool,
     later: bool,

@@ -14,7 +14,7 @@ use units::{Discharge, Variance};
 
 // Where the tanks of an element stand in the working space: the element's own place, at which its sums wait and its last tank comes to stand,
 // the first place of the others, how many places lie from one of them to the next, and how many leads each has, a step being one.
-#[derive(Drop)]
+#[derive(Clone, Copy)]
 pub struct TankPlaces {
     pub own: usize,
     pub first: usize,

@@ -10,25 +10,25 @@ use refusal::Refusal;
 
 // A discharge, an inflow or a margin of one, in grains of 0.000001 m³/s.
 #[repr(C)]
-#[derive(Drop)]
+#[derive(Clone, Copy)]
 pub struct Discharge(pub u64);
 
 // A variance or a margin of one, in units of 0.001 (m³/s)².
 #[repr(C)]
-#[derive(Drop)]
+#[derive(Clone, Copy)]
 pub struct Variance(pub u64);
 
 // A stage in millimetres.
-#[derive(Drop)]
+#[derive(Clone, Copy)]
 pub struct Stage(pub u64);
 
-#[derive(Drop)]
+#[derive(Clone, Copy)]
 pub enum DischargeAnswer {
     Accepted(Discharge),
     Refused(Refusal),
 }
 
-#[derive(Drop)]
+#[derive(Clone, Copy)]
 pub enum VarianceAnswer {
     Accepted(Variance),
     Refused(Refusal),

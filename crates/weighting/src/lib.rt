@@ -10,14 +10,14 @@ pub mod blend; // blend.rt: the blend of two estimates by a weight
 pub const SCALE: u64 = 1_000_000_000;
 
 // A number with its margin.
-#[derive(Drop)]
+#[derive(Clone, Copy)]
 pub struct Estimate {
     pub value: u64,
     pub margin: u64,
 }
 
 // A number with its margin, or the refusal of one.
-#[derive(Drop)]
+#[derive(Clone, Copy)]
 pub enum EstimateAnswer {
     Accepted(Estimate),
     Refused(Refusal),

@@ -11,6 +11,27 @@ use Rattle.lines.specs.Starts.{line_after, lines_after}
 use Rattle.lines.proofs.PrintedLaws.{joined-none, joined-more, joined-all, fewer-under}
 use Rattle.lines.proofs.put_element.Goals as goal
 
+pub overflow_cast-i : goal.overflow_cast-i
+overflow_cast-i c = omega arith
+
+pub overflow_add-i : goal.overflow_add-i
+overflow_add-i c = omega arith
+
+pub put_small-whole-requires : goal.put_small-whole-requires
+put_small-whole-requires c = (omega arith, (omega arith, c.requires.digits))
+
+pub loop-lead-init : goal.loop-lead-init
+loop-lead-init c = (omega arith, (omega arith, (refl, joined-none _ _ _)))
+
+pub overflow_mul-i : goal.overflow_mul-i
+overflow_mul-i c = omega arith
+
+pub overflow_add-i-in-loop-lead : goal.overflow_add-i-in-loop-lead
+overflow_add-i-in-loop-lead c = omega arith
+
+pub overflow_mul-i-in-loop-lead : goal.overflow_mul-i-in-loop-lead
+overflow_mul-i-in-loop-lead c = omega arith
+
 pub put_line-next-requires : goal.put_line-next-requires
 put_line-next-requires c =
     record {
@@ -21,4 +42,26 @@ put_line-next-requires c =
       there = omega arith;
       under = fewer-under _ _ _ (omega arith) c.requires.under;
       digits = c.requires.digits;
+    }
+
+pub loop-lead-smaller : goal.loop-lead-smaller
+loop-lead-smaller c = omega arith
+
+pub loop-lead-preserved : goal.loop-lead-preserved
+loop-lead-preserved c =
+    let l = c.loop-lead in (
+      omega arith,
+      (omega arith, (c.put_line-next.auto.0 ∙ l.invariant.1.1.0, joined-more _ _ l.invariant.1.1.1 c.put_line-next.ensures.0)),
+    )
+
+pub returns : goal.returns
+unfolding lines_after
+returns c =
+    let l = c.loop-lead in
+    let e = c.put_small-whole.ensures.0 in record {
+      text =
+          put_same (ap (λ text. lines_after text c.args.leads c.args.numbers.now c.args.i) e.holds)
+          (joined-all _ _ _ (omega arith) l.invariant.1.1.1);
+      within = omega arith;
+      kept = put-before e (omega (arith, c.requires));
     }

@@ -11,10 +11,19 @@ use Rattle.lines.specs.Printed.{joined, element_lines, answer_lines}
 use Rattle.lines.proofs.PrintedLaws.{joined-none, joined-more, joined-all, rows-within, lines_start, fewer-under}
 use Rattle.lines.proofs.put_lines.Goals as goal
 
+pub slice_bounds-put_number-end : goal.slice_bounds-put_number-end
+slice_bounds-put_number-end c = refl
+
+pub put_number-size-requires : goal.put_number-size-requires
+put_number-size-requires c = omega arith
+
 pub loop-i-init : goal.loop-i-init
 loop-i-init c =
     let p = c.put_number-size in
-    (omega arith, (omega arith, (refl, (joined-none _ _ _, (p.auto.out, p.ensures.0.holds)))))
+    (omega arith, (omega arith, (refl, (joined-none _ _ _, (p.auto.0, p.ensures.0.holds)))))
+
+pub slice_bounds-put_element-end : goal.slice_bounds-put_element-end
+slice_bounds-put_element-end c = sym c.loop-i.invariant.1.1.1.1.0
 
 pub put_element-next-requires : goal.put_element-next-requires
 put_element-next-requires c =
@@ -30,6 +39,9 @@ put_element-next-requires c =
       digits = c.requires.digits;
     }
 
+pub loop-i-smaller : goal.loop-i-smaller
+loop-i-smaller c = omega arith
+
 pub loop-i-preserved : goal.loop-i-preserved
 loop-i-preserved c =
     let l = c.loop-i in
@@ -40,10 +52,10 @@ loop-i-preserved c =
       (
         omega arith,
         (
-          c.put_element-next.auto.out ∙ l.invariant.1.1.0,
+          c.put_element-next.auto.0 ∙ l.invariant.1.1.0,
           (
             joined-more _ _ l.invariant.1.1.1.0 (put_same (lines_start _ _ _ _ _ text) e.text),
-            (c.put_element-next.auto.start.1.1.0 ∙ l.invariant.1.1.1.1.0, rw e.kept text),
+            (c.put_element-next.auto.1.1.1.0 ∙ l.invariant.1.1.1.1.0, rw e.kept text),
           ),
         ),
       ),

@@ -1,0 +1,13 @@
+-- The loop of `write_figures`.
+-- `write_figures` meets its contract.
+use Prim.Native.Nat.{◌*◌, ◌≤◌, ◌-◌}
+use mathlib.Core.Path.{◌≡◌, refl}
+use borrow.Author.Rules.{rules}
+use native.Mathlib.Omega.{arith}
+use lib.ListN.{length, drop}
+use lib.Seq.{paste, paste-zero}
+use Rattle.answer_space.proofs.CopyLaws.{copied_all, figures-copied}
+use Rattle.answer_space.proofs.write_figures.Given as goal
+
+abbrev pub invariant-loop-i : goal.invariant-loop-i
+invariant-loop-i l = (l.i ≤ l.n) × ((length l.out ≡ length l.initial.out) × (l.out ≡ paste l.initial.out 0 (drop 4 l.space) (4 * l.i)))

@@ -1,0 +1,9 @@
+-- `put_rains` meets its contract.
+use borrow.Author.Rules.{rules}
+use mathlib.Core.Path.{refl}
+use Rattle.state.specs.States.{put_rains}
+use Rattle.state.proofs.put_rains.Goals as goal
+
+pub returns : goal.returns
+unfolding put_rains
+returns c = refl

@@ -1,0 +1,9 @@
+-- `version_fits` meets its contract.
+use borrow.Author.Rules.{rules}
+use Rattle.gauges.specs.Gauges.{table_version}
+use Rattle.table.specs.Rules.{version_fits}
+use Rattle.table.proofs.version_fits.Goals as goal
+
+pub returns : goal.returns
+unfolding version_fits table_version
+returns c = rw c.wide-version.ensures.0
