@@ -1,5 +1,6 @@
 // The table that bytes hold, rules 1 to 7.
 #![tactic(auto)]
+
 ghost use Rattle.std.specs.Prelude.{◌≡◌, true, ◌+◌, ◌*◌, ◌≤◌, length};
 ghost use Rattle.sizes.specs.Sizes.{most_elements};
 ghost use Rattle.table.specs.Tables.{table_of};

@@ -36,7 +36,7 @@ pub put_line-next-requires : goal.put_line-next-requires
 put_line-next-requires c =
     record {
       room = omega arith;
-      whole = c.put_small-whole.auto.0 ∙ c.requires.whole;
+      whole = c.put_small-whole.auto.out ∙ c.requires.whole;
       few = omega arith;
       lead_few = omega arith;
       there = omega arith;
@@ -51,7 +51,7 @@ pub loop-lead-preserved : goal.loop-lead-preserved
 loop-lead-preserved c =
     let l = c.loop-lead in (
       omega arith,
-      (omega arith, (c.put_line-next.auto.0 ∙ l.invariant.1.1.0, joined-more _ _ l.invariant.1.1.1 c.put_line-next.ensures.0)),
+      (omega arith, (c.put_line-next.auto.out ∙ l.invariant.1.1.0, joined-more _ _ l.invariant.1.1.1 c.put_line-next.ensures.0)),
     )
 
 pub returns : goal.returns

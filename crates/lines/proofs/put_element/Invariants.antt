@@ -1,5 +1,4 @@
 -- The loop of `put_element`.
--- `put_element` meets its contract.
 use Prim.Native.Nat.{ℕ, ◌+◌, ◌*◌, ◌-◌, ◌≤◌}
 use mathlib.Core.List.{List}
 use mathlib.Core.Path.{◌≡◌, refl, ap, ◌∙◌}
@@ -11,6 +10,9 @@ use Rattle.lines.specs.Printed.{joined}
 use Rattle.lines.specs.Starts.{line_after, lines_after}
 use Rattle.lines.proofs.PrintedLaws.{joined-none, joined-more, joined-all, fewer-under}
 use Rattle.lines.proofs.put_element.Given as goal
+
+abbrev pub line_of : List ℕ → ℕ → ℕ → List ℕ → ℕ → List ℕ
+line_of start i leads numbers lead = line_after start lead numbers (4 * (i * leads + lead))
 
 abbrev pub invariant-loop-lead : goal.invariant-loop-lead
 invariant-loop-lead l = (l.lead ≤ l.leads) × ((l.next ≤ l.at + 147 * l.lead) × ((length l.out ≡ length l.initial.out) × Put l.initial.out l.at (joined (line_of (take l.whole l.start) l.i l.leads l.numbers) l.lead) l.out l.next))

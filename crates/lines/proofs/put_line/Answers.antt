@@ -15,12 +15,12 @@ overflow_cast-lead c = omega arith
 pub put_small-p2-requires : goal.put_small-p2-requires
 put_small-p2-requires c =
     let k = length-take-le c.args.size c.args.start.now (omega (arith, c.requires.whole, c.requires.few)) in
-    (c.requires.lead_few, (omega (arith, c.requires.room, c.requires.few, c.put_start-p1.ensures.ends, c.put_start-p1.auto.0, k), c.requires.digits))
+    (c.requires.lead_few, (omega (arith, c.requires.room, c.requires.few, c.put_start-p1.ensures.ends, c.put_start-p1.auto.out, k), c.requires.digits))
 
 pub put_figures-requires : goal.put_figures-requires
 put_figures-requires c =
     let k = length-take-le c.args.size c.args.start.now (omega (arith, c.requires.whole, c.requires.few)) in record {
-      room = omega (arith, c.requires.room, c.requires.few, c.put_start-p1.ensures.ends, c.put_start-p1.auto.0, c.put_small-p2.ensures.1, c.put_small-p2.auto.0, k);
+      room = omega (arith, c.requires.room, c.requires.few, c.put_start-p1.ensures.ends, c.put_start-p1.auto.out, c.put_small-p2.ensures.1, c.put_small-p2.auto.out, k);
       there = c.requires.there;
       under = c.requires.under;
       digits = c.requires.digits;

@@ -20,7 +20,7 @@ put_number-size-requires c = omega arith
 pub loop-i-init : goal.loop-i-init
 loop-i-init c =
     let p = c.put_number-size in
-    (omega arith, (omega arith, (refl, (joined-none _ _ _, (p.auto.0, p.ensures.0.holds)))))
+    (omega arith, (omega arith, (refl, (joined-none _ _ _, (p.auto.out, p.ensures.0.holds)))))
 
 pub slice_bounds-put_element-end : goal.slice_bounds-put_element-end
 slice_bounds-put_element-end c = sym c.loop-i.invariant.1.1.1.1.0
@@ -52,10 +52,10 @@ loop-i-preserved c =
       (
         omega arith,
         (
-          c.put_element-next.auto.0 ∙ l.invariant.1.1.0,
+          c.put_element-next.auto.out ∙ l.invariant.1.1.0,
           (
             joined-more _ _ l.invariant.1.1.1.0 (put_same (lines_start _ _ _ _ _ text) e.text),
-            (c.put_element-next.auto.1.1.1.0 ∙ l.invariant.1.1.1.1.0, rw e.kept text),
+            (c.put_element-next.auto.start ∙ l.invariant.1.1.1.1.0, rw e.kept text),
           ),
         ),
       ),

@@ -49,12 +49,12 @@ returns-in-1 c =
 pub returns-in-2 : goal.returns-in-2
 unfolding place_of
 returns-in-2 c =
-    sym (other_place _ _ (omega (arith, c.if-kind-lt1.false)) (omega (arith, c.if-kind-lt5.true)) ∙ fitting-2 c)
+    sym (other_place _ _ (omega arith) (omega arith) ∙ fitting-2 c)
 
 pub returns-in_default : goal.returns-in_default
 unfolding place_of
-returns-in_default c = sym (none-place _ _ c.in_default-1.in_default-1-own.rest.1 (λ e. omega (arith, e, c.if-kind-lt1.true)) (λ e. omega (arith, e, c.if-kind-lt1.true)) (λ e. omega (arith, e, c.if-kind-lt1.true)))
+returns-in_default c = sym (none-place _ _ c.in_default.in_default-own.rest.1 (λ e. omega (arith, e)) (λ e. omega (arith, e)) (λ e. omega (arith, e)))
 
 pub returns-in_default-2 : goal.returns-in_default-2
 unfolding place_of
-returns-in_default-2 c = sym (none-place _ _ c.in_default-1.in_default-1-own.rest.1 (λ e. omega (arith, e, c.if-kind-lt5.false)) (λ e. omega (arith, e, c.if-kind-lt5.false)) (λ e. omega (arith, e, c.if-kind-lt5.false)))
+returns-in_default-2 c = sym (none-place _ _ c.in_default.in_default-own.rest.1 (λ e. omega (arith, e)) (λ e. omega (arith, e)) (λ e. omega (arith, e)))
