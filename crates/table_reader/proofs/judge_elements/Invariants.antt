@@ -1,33 +1,12 @@
 -- The loop of `judge_elements`.
-use Prim.Native.Nat.{◌+◌, ◌*◌, ◌≤◌, ◌-◌}
-use mathlib.Core.Bool.{Bool, true, false, ◌&&◌, true≢false}
-use mathlib.Core.Logic.{⊎_elim}
-use mathlib.Core.Path.{◌≡◌, refl, sym, ap, ◌∙◌}
-use borrow.Author.Rules.{rules}
-use borrow.Author.Tests.{not-true, not-false}
-use native.Mathlib.Omega.{arith}
+use Prim.Native.Nat.{◌*◌, ◌≤◌}
+use mathlib.Core.Bool.{true}
+use mathlib.Core.Path.{◌≡◌}
 use Rattle.fields.specs.Ranges.{all_below}
-use Rattle.fields.proofs.RangeLaws.{all_none, all_more, all-fails}
-use Rattle.elements.specs.declared.Element.{Element}
 use Rattle.elements.specs.Elements.{element_at}
-use Rattle.elements.specs.Kinds.{basin_of, dam_of, extra_tanks}
 use Rattle.elements.specs.Rules.{element_fits, down_fits}
-use Rattle.element_rules.specs.Judged.{judged}
-use Rattle.element_rules.proofs.JudgedLaws.{
-  refused-said,
-  basin-said,
-  reach-said,
-  dam-said,
-  tanks-said,
-  basin-single,
-  reach-single,
-  dam-single,
-  tanks-counted,
-}
 use Rattle.table.specs.Tables.{table_of}
 use Rattle.table.specs.KindCounts.{basins_before, dams_before, extra_before}
-use Rattle.table.proofs.CountLaws.{count_none, count-more, basins-most, dams-most, extra-none, extra-more}
-use Rattle.table_reader.specs.declared.ElementsJudged.{ElementsJudged}
 use Rattle.table_reader.proofs.judge_elements.Given as goal
 
 abbrev pub invariant-loop-i : goal.invariant-loop-i

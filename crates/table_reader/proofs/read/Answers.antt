@@ -1,5 +1,4 @@
 -- `read` meets its contract.
-use borrow.Author.Rules.{rules}
 use Rattle.table.specs.Rules.{table_rules}
 use Rattle.fields.proofs.RangeLaws.{kept, broken}
 use Rattle.table.proofs.HeldLaws.{header-whole, refused-read}
