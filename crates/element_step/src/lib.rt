@@ -1,6 +1,7 @@
 // One element at a step or a lead: its inflow by its kind, its move, its correction by a reading, a dam's release; a basin's rains after a
 // step. A step and a lead have functions of their own, so that the compiler puts them into their callers.
 #![tactic(auto)]
+
 ghost use Rattle.std.specs.Prelude.{◌≢◌, ◌≡◌, ◌≤◌};
 ghost use Rattle.method.specs.Figures.{figures_answer, FiguresFit, AnsweredFiguresFit};
 ghost use Rattle.method.specs.Inflow.{reach_inflow};

@@ -1,6 +1,7 @@
 // The weights of an accepted table's elements: worked out in lent numbers before the elements are, so that the series of several elements go
 // on at the same time; the program keeps them for all its steps.
 #![tactic(auto)]
+
 ghost use Rattle.std.specs.Prelude.{◌≡◌, ◌≤◌, length};
 ghost use Rattle.units.specs.Units.{S};
 ghost use Rattle.table.specs.InUse.{table_in};

@@ -1,5 +1,6 @@
 // The state that a start leaves.
 #![tactic(auto)]
+
 ghost use Rattle.std.specs.Prelude.{◌≡◌, ◌+◌, ◌≤◌, ◌<◌};
 ghost use Rattle.sizes.specs.Sizes.{most_places};
 ghost use Rattle.table.specs.Bounds.{AcceptedTable};

@@ -1,5 +1,6 @@
 // One element through the leads of a forecast; a tank through them or a step.
 #![tactic(auto)]
+
 ghost use Rattle.std.specs.Prelude.{◌≢◌, ◌≡◌};
 ghost use Rattle.elements.specs.Kinds.{dam};
 ghost use Rattle.one_lead.specs.Worked.{tank_input};

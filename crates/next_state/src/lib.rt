@@ -1,5 +1,6 @@
 // The state after a step.
 #![tactic(auto)]
+
 ghost use Rattle.std.specs.Prelude.{◌≡◌, ◌+◌, ◌*◌, ◌≤◌, ◌<◌, length};
 ghost use Rattle.sizes.specs.Sizes.{most_elements};
 ghost use Rattle.elements.specs.Kinds.{basin};

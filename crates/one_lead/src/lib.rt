@@ -1,6 +1,7 @@
 // One element at one lead of a forecast, or at a step: its new figures take the place of what drained into it, and with its old ones are
 // added to what drains into the element below.
 #![tactic(auto)]
+
 ghost use Rattle.std.specs.Prelude.{◌≢◌, ◌≡◌};
 ghost use Rattle.method.specs.Inflow.{old_and_new_outflow};
 ghost use Rattle.elements.specs.Kinds.{dam};

@@ -1,5 +1,6 @@
 // The sums of the last rains, for a forecast.
 #![tactic(auto)]
+
 ghost use Rattle.std.specs.Prelude.{◌≡◌, ◌≤◌, ◌<◌};
 ghost use Rattle.sizes.specs.Sizes.{most_places};
 ghost use Rattle.state.specs.States.{rains_of};

@@ -1,5 +1,6 @@
 // What the program prints of a refusal, of a table or of a record, and whether the run ends with it.
 #![tactic(auto)]
+
 ghost use Rattle.std.specs.Prelude.{◌+◌, ◌≤◌, leb, length};
 ghost use Rattle.refusal.specs.Refusals.{number};
 ghost use Rattle.lines.specs.Printed.{refusal_line};

@@ -1,5 +1,6 @@
 // Rule 8 on a whole state.
 #![tactic(auto)]
+
 ghost use Rattle.std.specs.Prelude.{◌≡◌, ◌+◌, ◌≤◌};
 ghost use Rattle.sizes.specs.Sizes.{most_places};
 ghost use Rattle.fields.specs.Ranges.{all_below};

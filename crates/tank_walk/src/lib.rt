@@ -1,5 +1,6 @@
 // The tanks of one element above its last, at a step or through the leads of a forecast.
 #![tactic(auto)]
+
 ghost use Rattle.std.specs.Prelude.{◌≡◌, ◌+◌, ◌*◌, ◌≤◌, length};
 ghost use Rattle.tank_walk.specs.Tanks.{tank_place, RowCleared, RowMoved, MoveReady, PlaceFits, TankTurnReady, TankTurned, TanksReady, TanksAnswered, TanksOpened};
 

@@ -1,0 +1,9 @@
+-- The loop of `store_element`.
+use Prim.Native.Nat.{◌-◌}
+use borrow.Author.Rules.{rules}
+use native.Mathlib.Omega.{arith}
+use Rattle.lead_walk.proofs.LeadsLaws.{LeadsSoFar, leads-begin, lead-ready, number-few, leads-refused, leads-again, leads-done, element-accepted}
+use Rattle.lead_walk.proofs.store_element.Given as goal
+
+abbrev pub invariant-loop-k : goal.invariant-loop-k
+invariant-loop-k l = LeadsSoFar l.input l.initial.old l.here l.below l.leads l.initial.space l.k l.space l.old

@@ -1,0 +1,30 @@
+-- `tank_lead` meets its contract.
+use borrow.Author.Rules.{rules}
+use Rattle.method.proofs.FiguresLaws.{accepted-fits}
+use Rattle.one_lead.proofs.LeadLaws.{tank-refused, old-ready, new-ready, places-ready, new-kept, both-kept, tank-accepted, tank-ready}
+use Rattle.one_lead.proofs.tank_lead.Goals as goal
+
+pub step_tank-requires : goal.step_tank-requires
+step_tank-requires c = tank-ready c.requires
+
+pub returns-in_default : goal.returns-in_default
+returns-in_default c =
+    tank-refused _ _ _ _ _ _ _ _ _ c.figures_at-above.ensures c.step_tank.ensures c.in_default.is
+
+pub add_figures-requires : goal.add_figures-requires
+add_figures-requires c = old-ready _ _ _ _ c.requires _ c.old_outflow.ensures
+
+pub put_and_add-requires : goal.put_and_add-requires
+put_and_add-requires c =
+    places-ready _ _ _ _ (new-ready _ _ _ _ c.requires _ c.old_outflow.ensures _ c.add_figures.ensures) _
+    (accepted-fits c.in-Accepted.is c.step_tank.ensures.1)
+
+pub returns : goal.returns
+returns c =
+    let read = c.figures_at-above.ensures in
+    let x = c.in-Accepted.is in
+    let ready = c.requires in
+    tank-accepted _ _ _ _ _ _ _ _ _ read c.step_tank.ensures _ x
+    (both-kept _ _ _ _ ready _ c.old_outflow.ensures _ c.add_figures.ensures
+    (new-kept _ _ _ _ (new-ready _ _ _ _ ready _ c.old_outflow.ensures _ c.add_figures.ensures) _
+    (accepted-fits x c.step_tank.ensures.1) c.put_and_add.ensures))
