@@ -9,6 +9,7 @@ ghost use Rattle.table_input.specs.Start.{empty_state};
 use machine::{Next, proceed};
 use progress::{after_read, first_progress};
 use sizes::{FORECAST_SPACE, INPUT_BUFFER, MOST_ELEMENTS, STATE_NUMBERS, TABLE_BYTES, TEXT_BUFFER};
+use std::io::{Read, Stdin};
 use text::digit_fours;
 
 // The bytes of the input that are not used yet.
@@ -53,15 +54,18 @@ fn text_buffer() -> [u8; TEXT_BUFFER]
     [0; TEXT_BUFFER]
 }
 
-// One read of standard input; how many bytes came, none at its end.
-fn read_input(buffer: &mut [u8]) -> usize
+// One read of standard input; how many bytes came, none at its end or where it cannot be read.
+fn read_input(input: &mut Stdin, buffer: &mut [u8]) -> usize
     ensures { IsPrefixLen result buffer.new }
 {
-    let got = libc::read(0, &mut *buffer);
-    io::count(got, &*buffer)
+    match input.read(buffer) {
+        Ok(got) => got,
+        Err(_) => 0,
+    }
 }
 
-fn main() {
+fn main(rt: HostRuntime) {
+    let mut stdin = rt.stdin();
     let mut input = input_buffer();
     let mut table = table_buffer();
     let mut weights = weight_space();
@@ -89,7 +93,7 @@ fn main() {
             }
             Next::End => break,
             Next::Read(at) => {
-                let got = read_input(&mut input[at..]);
+                let got = read_input(&mut stdin, &mut input[at..]);
                 progress = after_read(progress, got);
             }
             Next::Answer => {}

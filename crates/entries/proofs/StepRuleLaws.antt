@@ -25,7 +25,7 @@ under-then ns a f = go (some_passes ns)
 module _ (t : TableValues) (bytes : List ℕ) (s : State) where
   pub and-then : {A B : Type 0} (r : Answer A) (f : A → Answer B) → and_then (step_rules t bytes s r) f ≡ step_rules t bytes s (and_then r f)
   unfolding step_rules
-  and-then r f = simp (rule-then, record-laws.and_then)
+  and-then r f = simp (rule-then, record-laws.and-then)
 
   -- the rules before 16 decide
   module _ {A : Type 0} (rest : Answer A) where

@@ -45,7 +45,7 @@ module _ (table bytes : List ℕ) (s : State) (room : ℕ) where
       rw (le-leb _ _ l)
       (ap (λ r. table_rules table (step_rules t bytes s r))
       (sym (step-rules.under-then (step_numbers t (input_at (cells t) bytes) s) (stepped t (input_at (cells t) bytes) s) (state_figures t)))
-      ∙ sym (simp (table-laws.and_then, step-rules.and_then)))
+      ∙ sym (simp (table-laws.and-then, step-rules.and-then)))
 
   -- an accepted trial has space enough
   trial-room : {fs : List Figures} → trial_answer table bytes s room ≡ accepted fs → 4 * t.elements ≤ room

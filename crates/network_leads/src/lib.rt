@@ -1,6 +1,7 @@
 // All elements through all leads of a forecast, in one space in which each place holds what drains into an element until its turn and its
 // figures from then on.
 #![tactic(auto)]
+
 ghost use Rattle.std.specs.Prelude.{◌≡◌, get_or};
 ghost use Rattle.elements.specs.Elements.{element_at};
 ghost use Rattle.table.specs.InUse.{table_in};

@@ -1,5 +1,6 @@
 // A step of the whole network: all elements in one working space.
 #![tactic(auto)]
+
 ghost use Rattle.std.specs.Prelude.{◌≡◌};
 ghost use Rattle.method.specs.Inflow.{old_outflow};
 ghost use Rattle.elements.specs.Elements.{element_at};

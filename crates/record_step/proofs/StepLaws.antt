@@ -70,7 +70,7 @@ module _ (t : TableValues) (bytes : List ℕ) (s : State) (h : state_fits t s �
 module _ {A : Type 0} (t : TableValues) (bytes : List ℕ) (s : State) (lent : ℕ) (a : A) where
   worked_then : and_then (worked_answer {A = Unit} t bytes s lent tt) (λ _. accepted a) ≡ worked_answer t bytes s lent a
   unfolding worked_answer
-  worked_then = simp (step-rules.and_then, rule-then, step-rules.under-then)
+  worked_then = simp (step-rules.and-then, rule-then, step-rules.under-then)
 
   pub worked-accepted : worked_answer {A = Unit} t bytes s lent tt ≡ accepted tt → worked_answer t bytes s lent a ≡ accepted a
   worked-accepted h = rw (← worked_then, h)

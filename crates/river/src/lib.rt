@@ -1,4 +1,5 @@
-// The engine for programs in C or Rust: document 01's entries on memory that the host lends. include/river.h declares them for C.
+// The engine for programs in C or Rust: document 01's entries on memory that the host lends. `river_c` exports them to C, and
+// include/river.h declares them there.
 #![tactic(auto)]
 ghost use Rattle.std.specs.Prelude.{◌≡◌, length};
 ghost use Rattle.refusal.specs.Answers.{accepted};
@@ -177,16 +178,14 @@ fn no_plan(number: u64) -> TablePlan
 }
 
 // The version of this interface, RIVER_VERSION of include/river.h.
-#[unsafe(no_mangle)]
-pub extern "C" fn river_version() -> u64
+pub fn river_version() -> u64
     ensures { result ≡ version }
 {
     6
 }
 
 // Judges the bytes of a table: rules 1 to 7.
-#[unsafe(no_mangle)]
-pub extern "C" fn river_check(table: &[u8]) -> TablePlan
+pub fn river_check(table: &[u8]) -> TablePlan
     ensures { result ≡ plan_reply (table_rules table.now (accepted (table_in table.now))) }
 {
     let read = table_reader::read(table);
@@ -198,8 +197,7 @@ pub extern "C" fn river_check(table: &[u8]) -> TablePlan
 }
 
 // Starts a river on the bytes of a table, from any state.
-#[unsafe(no_mangle)]
-pub extern "C" fn river_start(table: &[u8], state: &mut [u64; STATE_NUMBERS]) -> u64
+pub fn river_start(table: &[u8], state: &mut [u64; STATE_NUMBERS]) -> u64
     ensures { StateReplied result state.new (start_answer table.now state.old) state.old }
 {
     let verdict = engine::start(table, state);
@@ -207,8 +205,7 @@ pub extern "C" fn river_start(table: &[u8], state: &mut [u64; STATE_NUMBERS]) ->
 }
 
 // A step on the bytes of a table and of a record.
-#[unsafe(no_mangle)]
-pub extern "C" fn river_step(table: &[u8], bytes: &[u8], state: &mut [u64; STATE_NUMBERS]) -> u64
+pub fn river_step(table: &[u8], bytes: &[u8], state: &mut [u64; STATE_NUMBERS]) -> u64
     ensures { StateReplied result state.new (step_answer table.now bytes.now state.old) state.old }
 {
     let verdict = engine::step(table, bytes, state);
@@ -216,8 +213,7 @@ pub extern "C" fn river_step(table: &[u8], bytes: &[u8], state: &mut [u64; STATE
 }
 
 // A forecast on the bytes of a table into lent space.
-#[unsafe(no_mangle)]
-pub extern "C" fn river_forecast(
+pub fn river_forecast(
     table: &[u8],
     state: &[u64; STATE_NUMBERS],
     out: &mut [u64],
@@ -229,8 +225,7 @@ pub extern "C" fn river_forecast(
 }
 
 // A trial of a step on the bytes of a table and of a record, into lent space.
-#[unsafe(no_mangle)]
-pub extern "C" fn river_trial(
+pub fn river_trial(
     table: &[u8],
     bytes: &[u8],
     state: &[u64; STATE_NUMBERS],
@@ -243,8 +238,7 @@ pub extern "C" fn river_trial(
 }
 
 // A stage on the curve of a gauge, counted from 1, on the bytes of a table.
-#[unsafe(no_mangle)]
-pub extern "C" fn river_rate(table: &[u8], gauge: usize, stage: u64) -> Rating
+pub fn river_rate(table: &[u8], gauge: usize, stage: u64) -> Rating
     ensures { result ≡ rating_reply (rating_answer table.now gauge stage) }
 {
     let answer = gauge_look::rate(table, gauge, stage);
@@ -252,8 +246,7 @@ pub extern "C" fn river_rate(table: &[u8], gauge: usize, stage: u64) -> Rating
 }
 
 // A discharge and its margin, in grains, as floats in m³/s for a display.
-#[unsafe(no_mangle)]
-pub extern "C" fn river_show(discharge: u64, margin: u64) -> Display
+pub fn river_show(discharge: u64, margin: u64) -> Display
     ensures { result ≡ display_reply (show_answer discharge margin) }
 {
     let answer = display::show(discharge, margin);

@@ -19,8 +19,7 @@ unfolding rain_sum
 returns-in-2 c = (rw c.in-2.is, omega arith)
 
 pub returns-in_default : goal.returns-in_default
-returns-in_default c =
-    (
-      sym (all-three-rains _ _ c.requires.0 (search rules) (search rules) (search rules)),
-      omega arith,
-    )
+returns-in_default c = (
+  sym (all-three-rains _ _ c.requires.0 (search rules) (search rules) (search rules)),
+  omega arith,
+)
