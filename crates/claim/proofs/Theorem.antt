@@ -28,27 +28,25 @@ use Rattle.claim.proofs.CallLaws.{state-keeps, call-keeps}
 module _ (table : List ℕ) (b : AcceptedBounds (table_in table)) where
   -- each hands out figures within their margins
   run-near :
-      (s : State) (x : ExactState) (has_reading : ℕ → Bool)
+      (calls : List Call) (s : State) (x : ExactState) (has_reading : ℕ → Bool)
       → Together (table_in table) s x has_reading
-      → (calls : List Call)
       → Pairwise (λ (o : Outcome) (y : List (Place × ExactFigures)). Pairwise WithinMargins o.handed y)
       (cabinet_run table s has_reading calls)
       (fraction_run (table_in table) x (paired calls (map (λ (o : Outcome). o.was_refused) (cabinet_run table s has_reading calls))))
   unfolding cabinet_run fraction_run paired
-  run-near s x has_reading h [] = none
-  run-near s x has_reading h (call ∷ calls) =
-      let k = call-keeps table s x has_reading b h call in more k.near (run-near _ _ _ k.after calls)
+  run-near [] s x has_reading h = none
+  run-near (call ∷ calls) s x has_reading h =
+      let k = call-keeps table s x has_reading b h call in more k.near (run-near calls _ _ _ k.after)
 
   -- and under the limit
   run-limit :
-      (s : State) (x : ExactState) (has_reading : ℕ → Bool)
+      (calls : List Call) (s : State) (x : ExactState) (has_reading : ℕ → Bool)
       → Together (table_in table) s x has_reading
-      → (calls : List Call)
       → All (λ (o : Outcome). All (UnderLimit (table_in table) o.has_reading) o.handed) (cabinet_run table s has_reading calls)
   unfolding cabinet_run
-  run-limit s x has_reading h [] = none
-  run-limit s x has_reading h (call ∷ calls) =
-      let k = call-keeps table s x has_reading b h call in more k.limit (run-limit _ _ _ k.after calls)
+  run-limit [] s x has_reading h = none
+  run-limit (call ∷ calls) s x has_reading h =
+      let k = call-keeps table s x has_reading b h call in more k.limit (run-limit calls _ _ _ k.after)
 
 -- the two runs stand together after the start
 after-start :
@@ -74,6 +72,6 @@ the-claim table any s full start calls =
     let together = after-start t any s begun.bounds full begun.state in
     let first = state-keeps t s (exact_started (cells t)) (λ k. false) begun.bounds together in
     record {
-      near = more first.near (run-near table begun.bounds s (exact_started (cells t)) (λ k. false) together calls);
-      limit = more first.limit (run-limit table begun.bounds s (exact_started (cells t)) (λ k. false) together calls);
+      near = more first.near (run-near table begun.bounds calls s (exact_started (cells t)) (λ k. false) together);
+      limit = more first.limit (run-limit table begun.bounds calls s (exact_started (cells t)) (λ k. false) together);
     }

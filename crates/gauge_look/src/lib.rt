@@ -1,5 +1,6 @@
 // A stage on the curve of one gauge, by itself: the call `rate`.
 #![tactic(auto)]
+
 ghost use Rattle.std.specs.Prelude.{◌≡◌, ◌≤◌};
 ghost use Rattle.rating.specs.Looks.{look_of};
 ghost use Rattle.table.specs.Bounds.{CountedTable};

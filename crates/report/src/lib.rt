@@ -1,5 +1,6 @@
 // What the program prints of a record, and the state that the record leaves.
 #![tactic(auto)]
+
 ghost use Rattle.sizes.specs.Sizes.{answer_numbers};
 ghost use Rattle.table.specs.InUse.{table_in};
 ghost use Rattle.entries.specs.Entries.{forecast_on_answer};

@@ -1,6 +1,7 @@
 // The engine for programs in C or Rust: document 01's entries on memory that the host lends. `river_c` exports them to C, and
 // include/river.h declares them there.
 #![tactic(auto)]
+
 ghost use Rattle.std.specs.Prelude.{◌≡◌, length};
 ghost use Rattle.refusal.specs.Answers.{accepted};
 ghost use Rattle.refusal.specs.Verdicts.{verdict_answer};
@@ -213,11 +214,7 @@ pub fn river_step(table: &[u8], bytes: &[u8], state: &mut [u64; STATE_NUMBERS]) 
 }
 
 // A forecast on the bytes of a table into lent space.
-pub fn river_forecast(
-    table: &[u8],
-    state: &[u64; STATE_NUMBERS],
-    out: &mut [u64],
-) -> Written
+pub fn river_forecast(table: &[u8], state: &[u64; STATE_NUMBERS], out: &mut [u64]) -> Written
     ensures { ForecastReplied result out.new (forecast_answer table.now state.now (length out.old)) out.old }
 {
     let answer = engine::forecast(table, state, &mut *out);

@@ -1,5 +1,6 @@
 // A start on the table that the program's input begins with.
 #![tactic(auto)]
+
 ghost use Rattle.std.specs.Prelude.{◌≡◌, ◌≤◌, length};
 ghost use Rattle.sizes.specs.Sizes.{most_elements};
 ghost use Rattle.table_input.specs.Starts.{TableEnd, StartedOn, StartedOnInput};

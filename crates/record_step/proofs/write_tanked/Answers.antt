@@ -1,0 +1,30 @@
+-- `write_tanked` meets its contract.
+use borrow.Author.Rules.{rules}
+use mathlib.Core.Path.{◌≡◌, ap}
+use Prim.Native.Nat.{ℕ, ◌*◌}
+use native.Mathlib.Omega.{arith}
+use Rattle.table.specs.InUse.{table_in}
+use Rattle.record_step.proofs.StepLaws.{written-refused, elements-ready, both-written}
+use Rattle.record_step.proofs.write_tanked.Goals as goal
+
+-- a step lends itself all numbers of its figures
+all : (s : goal.In_default) → 4 * s.args.n ≡ 4 * (table_in s.args.table.now).elements
+all s = ap (λ (n : ℕ). 4 * n) s.requires.elements
+
+pub returns-in_default : goal.returns-in_default
+returns-in_default c = written-refused _ _ _ c.requires.worked (all c) c.in_default.is
+
+pub write_tanks-requires : goal.write_tanks-requires
+write_tanks-requires c =
+    let p = c.requires in
+    record { few = omega (arith, p.elements, p.extra_all, p.accepts.bounds.places_most); room = p.room }
+
+pub write_state-requires : goal.write_state-requires
+write_state-requires c =
+    let p = c.requires in
+    elements-ready p c.in-Accepted.is c.write_tanks.ensures
+
+pub returns : goal.returns
+returns c =
+    let p = c.requires in
+    both-written p c.in-Accepted.is c.write_tanks.ensures c.write_state.ensures
