@@ -1,5 +1,6 @@
 // The entries of document 01: start, step and forecast, on the bytes of a table and on lent numbers.
 #![tactic(auto)]
+
 ghost use Rattle.std.specs.Prelude.{length};
 ghost use Rattle.table.specs.Bounds.{CountedPlaces};
 ghost use Rattle.table.specs.InUse.{table_in};

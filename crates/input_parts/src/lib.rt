@@ -1,6 +1,7 @@
 // The parts of the program's input, in the bytes that are read and not used yet: whether the table or a record is whole, and where a
 // record ends.
 #![tactic(auto)]
+
 ghost use Rattle.std.specs.Prelude.{true, false};
 ghost use Rattle.program_run.specs.Machine.{table_held, record_held, lacking};
 ghost use Rattle.input_parts.specs.Parts.{Tells, RecordEnd};

@@ -1,5 +1,6 @@
 // The forecast: the spaces that it is worked out in, and what is copied out of them; rules 15 and 16.
 #![tactic(auto)]
+
 ghost use Rattle.std.specs.Prelude.{true, ◌≡◌, ◌+◌, ◌*◌, ◌≤◌, min, length};
 ghost use Rattle.sizes.specs.Sizes.{most_elements, most_leads, answer_numbers, tiny_forecast_elements, small_forecast_elements, tiny_forecast_space, small_forecast_space, medium_forecast_space, forecast_space};
 ghost use Rattle.table.specs.Bounds.{CountedPlaces};

@@ -27,15 +27,14 @@ use Rattle.more_rain.proofs.HandedLaws.{state_at, AtItsPlace, each-follows, stat
 module _ (t : TableValues) (few : (cells t).elements ≤ most_places) where
   -- the states after the same number of records
   states-more :
-      {s s* : State} {records records* : List (List ℕ)}
+      (k : ℕ) {s s* : State} {records records* : List (List ℕ)}
       → MoreWater t s s*
       → Pairwise (MoreRain t) records records*
-      → (k : ℕ)
       → MoreWater t (state_at t s records k) (state_at t s* records* k)
   unfolding state_at
-  states-more m rest zero = m
-  states-more m none (suc k) = m
-  states-more m (more r rest) (suc k) = states-more (more-stepped t few m _ _ r) rest k
+  states-more zero m rest = m
+  states-more (suc k) m none = m
+  states-more (suc k) m (more r rest) = states-more k (more-stepped t few m _ _ r) rest
 
   -- what both hand out at one place
   where-both :
@@ -52,7 +51,7 @@ module _ (t : TableValues) (few : (cells t).elements ≤ most_places) where
       let done : p.done ≡ q.done = omega (arith, ap (λ (x : Place). x.steps) place) in
       let element : p.element ≡ q.element = omega (arith, ap (λ (x : Place). x.element) place) in
       rw (p.figures, q.figures, done, element, same)
-      (more-at-lead t few (states-more (same_start t s full) storms q.done) other.0.lead (last_cell t q.element) (last-in-use t q.element q.inside))
+      (more-at-lead t few (states-more q.done (same_start t s full) storms) other.0.lead (last_cell t q.element) (last-in-use t q.element q.inside))
 
 -- each figure of a list whose steps are accepted, the start's own first
 all_placed :

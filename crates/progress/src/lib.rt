@@ -1,5 +1,6 @@
 // How far a run of the program has come: what it holds beside the lent numbers, and where it lies in the program's buffers.
 #![tactic(auto)]
+
 ghost use Rattle.std.specs.Prelude.{cond, ◌≡◌, ◌+◌, ◌-◌, ◌≤◌, ◌<◌, length, take, drop};
 ghost use Rattle.sizes.specs.Sizes.{input_buffer};
 ghost use Rattle.program_run.specs.Machine.{none_left, goes_out};

@@ -1,5 +1,6 @@
 // A trial of a step: the figures that the step would leave, in lent space; the state is kept.
 #![tactic(auto)]
+
 ghost use Rattle.std.specs.Prelude.{◌+◌, ◌≤◌, length};
 ghost use Rattle.sizes.specs.Sizes.{small_elements, middle_elements, medium_places};
 ghost use Rattle.table.specs.KindCounts.{extra_count};

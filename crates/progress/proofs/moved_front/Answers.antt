@@ -1,0 +1,8 @@
+-- `moved_front` meets its contract.
+use mathlib.Core.Path.{refl}
+use Rattle.progress.proofs.PlacesLaws.{moved-front-held}
+use borrow.Author.Rules.{rules}
+use Rattle.progress.proofs.moved_front.Goals as goal
+
+pub returns : goal.returns
+returns c = moved-front-held _ _ _ _ refl c.move_front.ensures

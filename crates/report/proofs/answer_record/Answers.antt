@@ -1,0 +1,28 @@
+-- `answer_record` meets its contract.
+use borrow.Author.Rules.{rules}
+use native.Mathlib.Omega.{arith}
+use Rattle.cells.proofs.BoundsLaws.{cells-bounds}
+use Rattle.entries.proofs.NextLaws.{answered-fits}
+use Rattle.report.proofs.ReportLaws.{step-length, reported-accepted, reported-refused}
+use Rattle.report.proofs.answer_record.Goals as goal
+
+pub answer_forecast-requires : goal.answer_forecast-requires
+answer_forecast-requires c =
+    let p = c.requires in
+    let v = c.step_lent-verdict.ensures in
+    record {
+      weighed = p.weighed;
+      state_whole = step-length _ _ _ _ _ v p.weighed.counted.counted.table.bounds p.state_whole;
+      state_kept = answered-fits _ _ _ _ (cells-bounds _ p.weighed.counted.counted.table.bounds) p.state_whole _ v c.in-Accepted.is;
+      space_full = omega (arith, c.step_lent-verdict.auto, p.space_full);
+      digits = p.digits;
+      room = p.room;
+    }
+
+pub returns-in-Accepted : goal.returns-in-Accepted
+returns-in-Accepted c =
+    reported-accepted _ _ _ _ _ c.step_lent-verdict.ensures c.in-Accepted.is c.answer_forecast.ensures
+
+pub returns-in-Refused : goal.returns-in-Refused
+returns-in-Refused c =
+    reported-refused _ _ _ _ _ c.step_lent-verdict.ensures _ c.in-Refused.is c.answer_refusal.ensures

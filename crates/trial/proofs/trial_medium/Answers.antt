@@ -1,0 +1,29 @@
+-- `trial_medium` meets its contract.
+use borrow.Author.Rules.{rules}
+use Prim.Native.Nat.{◌+◌, ◌*◌, ◌≤◌}
+use native.Mathlib.Omega.{arith}
+use lib.ListN.{length}
+use Rattle.sizes.specs.Sizes.{most_elements, observed_numbers, medium_step_space}
+use Rattle.record_step.proofs.StepLaws.{spaces-ready}
+use Rattle.trial.proofs.TrialLaws.{answer-ready, trial-held}
+use Rattle.trial.proofs.trial_medium.Goals as goal
+
+room : (w : goal.After-answer_trial-arg-1) → 4 * (w.args.n + 1) ≤ length w.work_record-verdict.new.space
+room w = omega (arith, w.work_record-verdict.auto, w.requires.1)
+
+room-2 : (w : goal.After-slice_known-2-1) → 4 * (w.args.n + 1) ≤ length w.work_record-verdict.new.space
+room-2 w = omega (arith, w.work_record-verdict.auto, w.requires.1)
+
+pub work_record-verdict-requires : goal.work_record-verdict-requires
+work_record-verdict-requires c =
+    let g = c.requires in
+    let b = g.0.accepts.bounds in
+    spaces-ready g.0 most_elements observed_numbers medium_step_space (omega (arith, g.0.elements, b.elements_most)) (omega (arith, b.gauges_most))
+    (omega (arith, g.1))
+
+pub answer_trial-requires : goal.answer_trial-requires
+answer_trial-requires c = answer-ready _ _ _ c.requires.0 c.work_record-verdict.ensures (room c)
+
+pub returns : goal.returns
+returns c =
+    trial-held _ _ _ c.requires.0 _ _ _ c.work_record-verdict.ensures (room-2 c) c.answer_trial.ensures
