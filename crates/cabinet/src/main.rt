@@ -1,6 +1,7 @@
 // Document 01, the program: a table and then records on standard input, the figures of each accepted step on standard output. The loop
 // alone: what is read, what is written and when the run ends is the machine's to say (`machine::proceed`).
 #![tactic(auto)]
+
 ghost use Rattle.std.specs.Prelude.{◌≡◌, length};
 ghost use Rattle.io.specs.Counts.{IsPrefixLen};
 ghost use Rattle.sizes.specs.Sizes.{most_elements, table_bytes, forecast_space, input_buffer, text_buffer};

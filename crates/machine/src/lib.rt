@@ -1,5 +1,6 @@
 // The program as a machine on lent buffers: each call does the next thing and says what it was.
 #![tactic(auto)]
+
 ghost use Rattle.progress.specs.Places.{held_in};
 ghost use Rattle.machine.specs.Buffers.{BuffersFit, WorkingSpace, TableDue, RecordDue, AnswerDue};
 ghost use Rattle.machine.specs.Turns.{HeldAnswered, Turned};

@@ -1,0 +1,7 @@
+-- `river_forecast` meets its contract.
+use borrow.Author.Rules.{rules}
+use Rattle.river.proofs.ReplyLaws.{forecast-replied}
+use Rattle.river.proofs.river_forecast.Goals as goal
+
+pub returns : goal.returns
+returns c = forecast-replied _ _ _ _ _ c.forecast-answer.ensures c.written_reply.ensures

@@ -1,0 +1,8 @@
+-- `river_rate` meets its contract.
+use mathlib.Core.Path.{ap, ◌∙◌}
+use borrow.Author.Rules.{rules}
+use Rattle.river.specs.Replies.{rating_reply}
+use Rattle.river.proofs.river_rate.Goals as goal
+
+pub returns : goal.returns
+returns c = c.rating_reply.ensures ∙ ap rating_reply c.rate-answer.ensures

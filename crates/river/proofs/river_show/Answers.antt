@@ -1,0 +1,8 @@
+-- `river_show` meets its contract.
+use mathlib.Core.Path.{ap, ◌∙◌}
+use borrow.Author.Rules.{rules}
+use Rattle.river.specs.Replies.{display_reply}
+use Rattle.river.proofs.river_show.Goals as goal
+
+pub returns : goal.returns
+returns c = c.display_reply.ensures ∙ ap display_reply c.show-answer.ensures

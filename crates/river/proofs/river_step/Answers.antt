@@ -1,0 +1,7 @@
+-- `river_step` meets its contract.
+use borrow.Author.Rules.{rules}
+use Rattle.river.proofs.ReplyLaws.{state-replied}
+use Rattle.river.proofs.river_step.Goals as goal
+
+pub returns : goal.returns
+returns c = state-replied _ _ _ _ _ c.step-verdict.ensures c.refusal_of.ensures
