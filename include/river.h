@@ -1,6 +1,6 @@
 /* The proved engine of the river cabinet for programs in C: the entries of documents 01 and 02 on memory that the host owns.
  *
- *   rt staticlib river                                       writes target/staticlib/libriver.a
+ *   tools/build library                                     writes target/staticlib/libriver.a
  *   gcc -Iinclude program.c target/staticlib/libriver.a      links it (x86-64 Linux)
  *
  * Every call checks all that it is given and answers 0 where it is accepted, else the first number for no, in checking order, that applies.

@@ -1,7 +1,7 @@
 #!/usr/bin/env python3
 """Tries the C interface (include/river.h) on generated calls and compares every number of every reply with the calculator's.
 
-    rt staticlib river
+    tools/build library
     python3 tests/calls.py [--seed S] [--only K] [library]
 
 The library is target/staticlib/libriver.a unless another path is given; tests/calls.c is linked with it (gcc) and makes the calls. Compared
@@ -326,7 +326,7 @@ def main():
     parser.add_argument("--only", type=int, help="the case of this number alone, with all its numbers")
     options = parser.parse_args()
     if not Path(options.library).is_file():
-        sys.exit(f"{options.library} is not there; build it by `rt staticlib river`")
+        sys.exit(f"{options.library} is not there; build it by `tools/build library`")
     started = time.perf_counter()
     floats.check()
     chosen = list(enumerate(cases()))

@@ -156,7 +156,7 @@ def wrong_complaints(row):
 
 def code_complaints(document):
     blocks = re.findall(r"^```rust\n(.*?)^```$", document, re.S | re.M)
-    if not any("fn main() {" in block for block in blocks):
+    if not any("fn main(" in block for block in blocks):
         yield "the program's main is not shown"
     for block in blocks:
         if block not in SOURCE.read_text():

@@ -1,20 +1,19 @@
 -- The cells of an accepted table are a table of basins, reaches and dams that keeps the same bounds.
-use Prim.Native.Nat.{ℕ, zero, suc, ◌+◌, ◌-◌, ◌≤◌, ◌<◌}
+use Prim.Native.Nat.{ℕ, ◌+◌, ◌-◌, ◌≤◌, ◌<◌}
 use mathlib.Core.Bool.{Bool, true, false, cond}
-use mathlib.Core.Logic.{◌⊎◌, inl, inr, ◌≢◌, ⊎_elim}
-use mathlib.Core.Path.{◌≡◌, refl, sym, ap, subst, ◌∙◌}
+use mathlib.Core.Logic.{◌⊎◌, inl, inr, ◌≢◌}
+use mathlib.Core.Path.{◌≡◌, refl, sym, subst}
 use borrow.Author.Tests.{eqb-true, eqb-false}
 use native.Mathlib.Omega.{arith}
-use lib.Dec.{leb, eqb}
+use lib.Dec.{eqb}
 use Rattle.elements.specs.declared.Element.{Element}
-use Rattle.elements.specs.Kinds.{reach, dam, IsKind, tanks}
+use Rattle.elements.specs.Kinds.{tanks}
 use Rattle.elements.specs.Bounds.{AcceptedElement, ElementBounds}
-use Rattle.gauges.specs.Bounds.{GaugeBounds}
 use Rattle.table.specs.Tables.{TableValues}
 use Rattle.table.specs.Bounds.{AcceptedBounds, TableBounds}
 use Rattle.table.specs.KindCounts.{extra_count}
 use Rattle.cells.specs.Cells.{last_cell, cell_at, last_of, tank_of, draining_into, inlet_of, gauge_of, cells}
-use Rattle.cells.proofs.CellLaws.{CellIn, Cell, last, inner, cell-of, last-cell, inner-cell, inner-tanks, inlet-most, inlet-later, last-most, last-rises, cell-used}
+use Rattle.cells.proofs.CellLaws.{Cell, last, inner, cell-of, last-cell, inner-cell, inner-tanks, inlet-most, inlet-later, last-most, last-rises, cell-used}
 
 module _ (T n i : ℕ) (e : Element) (b : AcceptedElement T n i e) where
   -- a tank

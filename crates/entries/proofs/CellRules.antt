@@ -1,23 +1,15 @@
 -- A record is judged alike by a river's elements and by its cells.
 use Prim.{Unit}
 use Prim.Native.Nat.{ℕ}
-use mathlib.Core.Bool.{Bool}
 use mathlib.Core.List.{List}
-use mathlib.Core.Path.{◌≡◌, refl, sym, ap, ◌∙◌}
-use native.Mathlib.Omega.{arith}
+use mathlib.Core.Path.{◌≡◌, ◌∙◌}
 use Rattle.refusal.specs.Answers.{Answer, accepted}
-use Rattle.elements.specs.Kinds.{basin_of, dam_of, by_kind}
 use Rattle.fields.proofs.RangeLaws.{all_same}
-use Rattle.gauges.specs.Looks.{look_by, look_on}
 use Rattle.table.specs.Tables.{TableValues}
-use Rattle.table.specs.KindCounts.{basin_count, dam_count}
-use Rattle.cells.specs.Cells.{gauge_of, cells}
-use Rattle.cells.proofs.CountLaws.{all-count}
-use Rattle.record.specs.declared.Reading.{Reading}
-use Rattle.record.specs.declared.Reading.TheVariants.{At, Gap}
-use Rattle.record.specs.Records.{reading_at, observation_of}
+use Rattle.cells.specs.Cells.{cells}
+use Rattle.record.specs.Records.{reading_at}
 use Rattle.record.proofs.CellInputs.{basins-same, dams-same, gauges-same, reading-same, observed-same}
-use Rattle.record.specs.Rules.{reading_fits, readings_fit, is_accepted, record_rules}
+use Rattle.record.specs.Rules.{reading_fits, readings_fit, record_rules}
 
 module _ (t : TableValues) where
   test-same : (bytes : List ℕ) (g : ℕ) → reading_fits (cells t) bytes g ≡ reading_fits t bytes g

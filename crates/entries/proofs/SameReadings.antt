@@ -11,7 +11,7 @@ use Rattle.fields.proofs.RangeLaws.{all_same}
 use Rattle.elements.specs.Kinds.{by_kind}
 use Rattle.elements.specs.Elements.{no_element}
 use Rattle.table.specs.Tables.{TableValues}
-use Rattle.table.specs.InUse.{below, in_use, table_in}
+use Rattle.table.specs.InUse.{below, table_in}
 use Rattle.table.specs.KindCounts.{basin_count, dam_count}
 use Rattle.record.specs.Records.{rain_of, release_of, input_rain, input_release, input_at}
 use Rattle.record.specs.Rules.{rain_fits, release_fits, reading_fits, rains_fit, releases_fit, readings_fit, record_rules}

@@ -1,5 +1,5 @@
 -- How much a blend adds to the margins.
-use Prim.Native.Nat.{ℕ, ◌+◌, ◌-◌, ◌≤◌}
+use Prim.Native.Nat.{ℕ, ◌+◌, ◌≤◌}
 use native.Mathlib.Omega.{arith}
 use Rattle.units.specs.Units.{C, S}
 use Rattle.weighting.specs.declared.Estimate.{Estimate}

@@ -1,5 +1,4 @@
 -- What the theorems claim of a whole number and the fraction that it stands for.
-use Rattle.std.specs.Prelude.{ℕ}
 use Rattle.method.specs.declared.Figures.{Figures}
 use Rattle.weighting.specs.declared.Estimate.{Estimate}
 use Rattle.method.specs.Figures.{discharge, variance}

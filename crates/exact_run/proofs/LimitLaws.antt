@@ -12,7 +12,6 @@ use lib.Dec.{eqb}
 use Rattle.sizes.specs.Sizes.{most_places, most_leads}
 use Rattle.units.specs.Units.{C, S}
 use Rattle.method.specs.declared.Figures.{Figures}
-use Rattle.method.specs.Figures.{discharge}
 use Rattle.method.specs.Inflow.{no_inflow, joined_inflow, old_outflow, old_and_new_outflow, reach_inflow}
 use Rattle.method.specs.Routing.{routed}
 use Rattle.exact.proofs.Theorems.{routing-margin-growth}

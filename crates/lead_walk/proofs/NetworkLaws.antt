@@ -2,7 +2,7 @@
 use Prim.Native.Nat.{ℕ, zero, suc, ◌+◌, ◌*◌, ◌≤◌, ◌<◌}
 use mathlib.Core.Bool.{Bool, true, false, cond}
 use mathlib.Core.List.{List}
-use mathlib.Core.Logic.{◌⊎◌, inl, inr, ◌≢◌, ⊎_elim}
+use mathlib.Core.Logic.{◌⊎◌, ◌≢◌, ⊎_elim}
 use mathlib.Core.Path.{◌≡◌, refl, sym, ap, subst, ◌∙◌}
 use native.Mathlib.Nat.{eq-or-lt_of_le}
 use native.Mathlib.Omega.{arith}
@@ -18,9 +18,9 @@ use Rattle.table.specs.Tables.{TableValues}
 use Rattle.record.specs.declared.Observation.{Observation}
 use Rattle.element_step.specs.ElementStep.{moved, stored, element_step, move_numbers, stored_numbers, element_numbers}
 use Rattle.walk.specs.Walk.{drained, walked, new_cell, outflow}
-use Rattle.walk.specs.Space.{Later, Turned, Held}
+use Rattle.walk.specs.Space.{Later, Turned}
 use Rattle.walk.proofs.SpaceLaws.{held-begin, found, held_moved, held-again, sum-small}
-use Rattle.network.specs.Step.{weight_of, network_down, network_cell, network_outflow, above_of, new_figures, network_numbers}
+use Rattle.network.specs.Step.{weight_of, network_down, network_cell, network_outflow, above_of, new_figures}
 use Rattle.network.proofs.NumbersLaws.{cell_numbers, element-part, numbers-none, numbers_more}
 use Rattle.answer_space.specs.Places.{figures_at, most_outflow, most_sum_before, FiguresBelow}
 use Rattle.answer_space.proofs.PlacesLaws.{fits_below, below-most, joined-below, same-element}

@@ -9,7 +9,6 @@ use lib.ListN.{length, take, drop, length-take, length-drop}
 use lib.Seq.{length-take-le}
 use Rattle.sizes.specs.Sizes.{state_numbers, table_bytes}
 use Rattle.refusal.specs.Refusals.{number}
-use Rattle.refusal.specs.Answers.{accepted}
 use Rattle.refusal.specs.declared.Refusal.{Refusal}
 use Rattle.refusal.specs.declared.Verdict.TheVariants.{Accepted, Refused}
 use Rattle.table.specs.InUse.{table_in}

@@ -20,7 +20,7 @@ use Rattle.record.proofs.SameLaws.{rain-related, same-release, same-observation}
 use Rattle.state.specs.declared.Rains.{Rains}
 use Rattle.cells.specs.Cells.{cells}
 use Rattle.record.proofs.CellInputs.{basins-same, dams-same, reading-same}
-use Rattle.state.specs.States.{cell_figures, cell_rains, State, steps_of, figures_of, rains_of}
+use Rattle.state.specs.States.{cell_figures, cell_rains, State, steps_of}
 use Rattle.element_step.specs.ElementStep.{released, own_of}
 use Rattle.element_step.specs.Rains.{shifted_rains}
 use Rattle.network.specs.Step.{step_own, observed_in, no_observation, step_figures, stepped}

@@ -2,7 +2,7 @@
 use Prim.{Unit}
 use Prim.Native.Nat.{ℕ, ◌≤◌, ◌<◌}
 use mathlib.Core.List.{List}
-use mathlib.Core.Path.{◌≡◌, sym, ap, subst, ◌∙◌}
+use mathlib.Core.Path.{◌≡◌, subst}
 use native.Mathlib.Omega.{arith}
 use Rattle.refusal.specs.Answers.{refused}
 use Rattle.units.specs.Ceiling.{under_ceiling}
@@ -11,7 +11,6 @@ use Rattle.table.specs.Tables.{TableValues}
 use Rattle.table.specs.KindCounts.{extra_before}
 use Rattle.state.specs.States.{State}
 use Rattle.network.specs.Forecast.{lead_numbers}
-use Rattle.network_leads.specs.declared.RunEnd.{RunEnd}
 use Rattle.network_leads.specs.declared.RunEnd.TheVariants.{Done, Above, Tanks}
 use Rattle.network_leads.specs.Worked.{LeadsSoFar, TanksNext, RunWorked}
 

@@ -1,27 +1,21 @@
 -- The turn of an element of tanks in the code of a forecast: the figures of its last put at lead 0, the tanks above it, and the last.
-use Prim.{Unit}
-use Prim.Native.Nat.{ℕ, suc, ◌+◌, ◌*◌, ◌-◌, ◌≤◌, ◌<◌}
-use mathlib.Core.List.{List, [], ◌∷◌}
+use Prim.Native.Nat.{ℕ, ◌+◌, ◌*◌, ◌-◌, ◌≤◌, ◌<◌}
+use mathlib.Core.List.{List}
 use mathlib.Core.Logic.{◌≢◌, ⊎_elim, inl, inr}
 use mathlib.Core.Path.{◌≡◌, refl, sym, ap, subst, ◌∙◌}
-use borrow.Author.Tests.{eq-eqb, ne_eqb}
+use borrow.Author.Tests.{eq-eqb}
 use native.Mathlib.Nat.{mul-le-mul_right, eq-or-lt_of_le}
 use native.Mathlib.Decide.{dec_le}
 use native.Mathlib.Omega.{arith}
-use mir.Syntax.{w64}
-use mir.Val.{Fits}
 use lib.ListN.{length, get_or}
 use Rattle.sizes.specs.Sizes.{most_places, most_leads, forecast_space}
-use Rattle.refusal.specs.Answers.{refused}
 use Rattle.refusal.specs.declared.Refusal.{Refusal}
 use Rattle.refusal.specs.declared.Refusal.TheVariants.{AboveCeiling}
 use Rattle.refusal.specs.declared.Verdict.{Verdict}
 use Rattle.refusal.specs.declared.Verdict.TheVariants.{Accepted, Refused}
 use Rattle.refusal.specs.Verdicts.{verdict_answer}
 use Rattle.refusal.proofs.RuleLaws.{not-both}
-use Rattle.units.specs.Units.{C, S}
-use Rattle.units.specs.Ceiling.{under_ceiling}
-use Rattle.units.proofs.UnderLaws.{Under, refused-whole}
+use Rattle.units.proofs.UnderLaws.{refused-whole}
 use Rattle.method.specs.declared.Figures.{Figures}
 use Rattle.method.specs.Figures.{FiguresFit}
 use Rattle.elements.specs.declared.Element.{Element}
@@ -38,28 +32,24 @@ use Rattle.cells.specs.Cells.{first_cell, last_cell, cells}
 use Rattle.cells.proofs.CellLaws.{last-is, last-in-use}
 use Rattle.record.specs.declared.Observation.TheVariants.{Nothing}
 use Rattle.record.specs.Decoded.{ObservationFits}
-use Rattle.state.specs.States.{State, steps_of, figures_of}
-use Rattle.state.specs.Bounds.{StateBounds}
+use Rattle.state.specs.States.{State, figures_of}
 use Rattle.network.specs.Step.{weight_of, no_observation}
-use Rattle.network.specs.Forecast.{rain_count, lead_figures, lead_numbers}
+use Rattle.network.specs.Forecast.{lead_figures, lead_numbers}
 use Rattle.answer_space.specs.Places.{figures_at, put}
 use Rattle.answer_space.proofs.PlacesLaws.{put-length}
-use Rattle.one_lead.specs.declared.ElementInput.{ElementInput}
-use Rattle.one_lead.specs.Worked.{InputInRange, tank_input}
+use Rattle.one_lead.specs.Worked.{tank_input}
 use Rattle.lead_walk.proofs.NetworkLaws.{InputOf}
 use Rattle.network.proofs.NumbersLaws.{lead_own}
 use Rattle.tank_walk.specs.Rows.{IsLast, own_row}
-use Rattle.lead_walk.specs.Worked.{Apart, LeadPlaces, LeadsReady, TankReady, ElementWorked}
+use Rattle.lead_walk.specs.Worked.{Apart, TankReady, ElementWorked}
 use Rattle.tank_walk.specs.declared.TankPlaces.{TankPlaces}
 use Rattle.tank_walk.specs.Tanks as tank-specs
 use Rattle.tank_walk.specs.Tanks.{tank_place, TanksThere, TanksOpened}
 use Rattle.tank_walk.proofs.RowLaws.{tank_row, tank-place, tank-last, tank-inner}
-use Rattle.tank_walk.proofs.ForecastLaws.{tank-first, Ready, ready-one, ready-tanks, tanks-pass, ready-small, last_under, forecast-again}
-use Rattle.element_weights.specs.Weights.{element_weight}
+use Rattle.tank_walk.proofs.ForecastLaws.{tank-first, Ready, ready-tanks, tanks-pass, ready-small, last_under, forecast-again}
 use Rattle.element_weights.proofs.WeightsLaws.{weight-held, tank-weight}
-use Rattle.network_leads.specs.Inputs.{lead_input}
 use Rattle.network_leads.specs.Worked.{Given, spare_rows, space_size, LeadsSoFar, TanksReady, TanksNext, TanksDone}
-use Rattle.network_leads.proofs.InputLaws.{figures-fit, input-in-range, input-of, last-tank-input}
+use Rattle.network_leads.proofs.InputLaws.{figures-fit, last-tank-input}
 use Rattle.network_leads.proofs.WorkLaws.{space-most, places-apart, worked-first, first-stays, tanks-stay}
 use Rattle.network_leads.proofs.TurnLaws.{first-is, passes, row-there}
 

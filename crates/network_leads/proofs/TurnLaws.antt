@@ -1,12 +1,12 @@
 -- The turn of one element in the code of a forecast: its figures put at lead 0, what its leads are worked out from, and what is then held, of an
 -- element that is no tanks.
 use Prim.{Unit}
-use Prim.Native.Nat.{ℕ, suc, ◌+◌, ◌*◌, ◌-◌, ◌≤◌, ◌<◌}
+use Prim.Native.Nat.{ℕ, suc, ◌+◌, ◌*◌, ◌≤◌, ◌<◌}
 use mathlib.Core.List.{List, [], ◌∷◌}
-use mathlib.Core.Logic.{◌≢◌, ⊎_elim, inl, inr}
+use mathlib.Core.Logic.{◌≢◌}
 use mathlib.Core.Path.{◌≡◌, refl, sym, ap, subst, ◌∙◌}
-use borrow.Author.Tests.{eq-eqb, ne_eqb}
-use native.Mathlib.Nat.{mul-le-mul_right, eq-or-lt_of_le}
+use borrow.Author.Tests.{ne_eqb}
+use native.Mathlib.Nat.{mul-le-mul_right}
 use native.Mathlib.Omega.{arith}
 use mir.Syntax.{w64}
 use mir.Val.{Fits}
@@ -14,11 +14,9 @@ use lib.ListN.{length}
 use Rattle.sizes.specs.Sizes.{most_leads, forecast_space}
 use Rattle.refusal.specs.Answers.{refused}
 use Rattle.refusal.specs.declared.Refusal.{Refusal}
-use Rattle.refusal.specs.declared.Refusal.TheVariants.{AboveCeiling}
 use Rattle.refusal.specs.declared.Verdict.{Verdict}
 use Rattle.refusal.specs.declared.Verdict.TheVariants.{Accepted, Refused}
 use Rattle.refusal.specs.Verdicts.{verdict_answer}
-use Rattle.refusal.proofs.RuleLaws.{not-both}
 use Rattle.units.specs.Units.{C, S}
 use Rattle.units.specs.Ceiling.{some_passes, under_ceiling}
 use Rattle.units.proofs.UnderLaws.{Under, refused-whole}
@@ -29,37 +27,28 @@ use Rattle.elements.specs.Elements.{element_at}
 use Rattle.elements.specs.Kinds.{tanks, extra_tanks}
 use Rattle.elements.specs.Bounds.{AcceptedElement}
 use Rattle.table.specs.Tables.{TableValues}
-use Rattle.table.specs.KindCounts.{extra_before, extra_count}
+use Rattle.table.specs.KindCounts.{extra_before}
 use Rattle.table.specs.InUse.{table_in}
 use Rattle.table.proofs.InUseLaws.{element-read}
-use Rattle.table.proofs.CountLaws.{extra-rise, extra-more}
-use Rattle.table.proofs.HeldLaws.{element-bounds}
-use Rattle.cells.specs.Cells.{first_cell, last_cell, cells}
-use Rattle.cells.proofs.CellLaws.{last-is, last-place, last-most}
-use Rattle.record.specs.declared.Observation.TheVariants.{Nothing}
-use Rattle.record.specs.Decoded.{ObservationFits}
+use Rattle.table.proofs.CountLaws.{extra-more}
+use Rattle.cells.specs.Cells.{last_cell, cells}
+use Rattle.cells.proofs.CellLaws.{last-place}
 use Rattle.state.specs.States.{State, steps_of, figures_of}
-use Rattle.state.specs.Bounds.{StateBounds}
-use Rattle.network.specs.Step.{weight_of, no_observation}
+use Rattle.network.specs.Step.{no_observation}
 use Rattle.network.specs.Forecast.{rain_count, lead_figures, lead_numbers}
 use Rattle.answer_space.specs.Places.{put}
 use Rattle.answer_space.proofs.PlacesLaws.{put-length}
 use Rattle.one_lead.specs.declared.ElementInput.{ElementInput}
-use Rattle.one_lead.specs.Worked.{InputInRange, tank_input}
+use Rattle.one_lead.specs.Worked.{InputInRange}
 use Rattle.lead_walk.proofs.NetworkLaws.{InputOf}
 use Rattle.network.proofs.NumbersLaws.{lead_own}
 use Rattle.tank_walk.specs.Rows.{IsLast, own_row}
-use Rattle.lead_walk.specs.Worked.{Apart, LeadPlaces, LeadsReady, TankReady, ElementWorked}
-use Rattle.tank_walk.specs.declared.TankPlaces.{TankPlaces}
-use Rattle.tank_walk.specs.Tanks as tank-specs
-use Rattle.tank_walk.specs.Tanks.{tank_place, TanksThere, TanksOpened}
-use Rattle.tank_walk.proofs.TankLaws.{place-last, place-inner}
-use Rattle.tank_walk.proofs.ForecastLaws.{tank-first, Ready, ready-one, ready-tanks, tanks-pass, ready-small, last_under, forecast-again}
+use Rattle.lead_walk.specs.Worked.{LeadsReady, ElementWorked}
+use Rattle.tank_walk.proofs.ForecastLaws.{Ready, ready-one, ready-small, last_under, forecast-again}
 use Rattle.element_weights.specs.Weights.{element_weight}
-use Rattle.element_weights.proofs.WeightsLaws.{tank-weight}
 use Rattle.network_leads.specs.Inputs.{lead_input}
-use Rattle.network_leads.specs.Worked.{Given, spare_rows, space_size, LeadsSoFar, TanksReady, TanksDone}
-use Rattle.network_leads.proofs.InputLaws.{figures-fit, input-in-range, input-of, last-tank-input}
+use Rattle.network_leads.specs.Worked.{Given, spare_rows, space_size, LeadsSoFar}
+use Rattle.network_leads.proofs.InputLaws.{figures-fit, input-in-range, input-of}
 use Rattle.network_leads.proofs.WorkLaws.{space-most, all_room, places-apart, worked-first, first-stays}
 
 pub first-is : (t : TableValues) (s : State) (i : ℕ) (f : Figures) → i < t.elements → f ≡ figures_of s i → f ≡ lead_figures t s 0 (last_cell t i)

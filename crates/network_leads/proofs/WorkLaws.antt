@@ -1,8 +1,8 @@
 -- The walk of a forecast: what its space holds after each element, with the state's figures at lead 0.
 use Prim.{Unit}
-use Prim.Native.Nat.{ℕ, zero, suc, ◌+◌, ◌*◌, ◌≤◌, ◌<◌, min}
+use Prim.Native.Nat.{ℕ, zero, suc, ◌+◌, ◌*◌, ◌≤◌, ◌<◌}
 use mathlib.Core.List.{List}
-use mathlib.Core.Logic.{◌⊎◌, ◌≢◌, ⊎_elim, inl, inr}
+use mathlib.Core.Logic.{◌≢◌, ⊎_elim, inl, inr}
 use mathlib.Core.Path.{◌≡◌, refl, sym, ap, subst, ◌∙◌}
 use native.Mathlib.Nat.{mul-le-mul, mul-le-mul_right, add-zero, eq-or-lt_of_le}
 use native.Mathlib.Omega.{arith}
@@ -19,7 +19,6 @@ use Rattle.units.proofs.UnderLaws.{Under, under-accepted}
 use Rattle.method.specs.declared.Figures.{Figures}
 use Rattle.elements.specs.Kinds.{extra_tanks}
 use Rattle.table.specs.Tables.{TableValues}
-use Rattle.table.specs.KindCounts.{extra_count}
 use Rattle.cells.specs.Cells.{last_cell, cells}
 use Rattle.state.specs.States.{State}
 use Rattle.walk.specs.Space.{Later}
@@ -37,8 +36,8 @@ use Rattle.tank_walk.specs.Rows.{resting, IsLast, own_row}
 use Rattle.tank_walk.specs.Tanks.{TanksWorked, done, more, TanksOpened}
 use Rattle.tank_walk.specs.Tanks as tank-specs
 use Rattle.tank_walk.proofs.RowLaws.{tank-place}
-use Rattle.tank_walk.proofs.ForecastLaws.{Forecast, forecast-begin, forecast-at, forecast-whole}
-use Rattle.network_leads.specs.Worked.{spare_rows, LeadsSoFar, LeadsWorked}
+use Rattle.tank_walk.proofs.ForecastLaws.{forecast-begin, forecast-at, forecast-whole}
+use Rattle.network_leads.specs.Worked.{LeadsSoFar, LeadsWorked}
 
 -- ---- places of w = leads + 1 leads an element
 

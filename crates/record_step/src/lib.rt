@@ -1,5 +1,6 @@
 // A step or a trial by a record, on what is known of an accepted table and from a state that rule 8 accepts.
 #![tactic(auto)]
+
 ghost use Rattle.std.specs.Prelude.{true, ◌≡◌, ◌+◌, ◌≤◌};
 ghost use Rattle.sizes.specs.Sizes.{small_elements, middle_elements, medium_places};
 ghost use Rattle.table.specs.Bounds.{CountedPlaces};

@@ -1,6 +1,7 @@
 // The engine's entries for programs in C, as a static library: each export calls the entry of its name in `river` and promises the same.
 // include/river.h declares them.
 #![tactic(auto)]
+
 ghost use Rattle.std.specs.Prelude.{◌≡◌, length};
 ghost use Rattle.refusal.specs.Answers.{accepted};
 ghost use Rattle.table.specs.InUse.{table_in};

@@ -14,13 +14,12 @@ use Rattle.fields.proofs.RangeLaws.{both, all_three, all-four, all-at}
 use Rattle.elements.specs.declared.Element.{Element}
 use Rattle.elements.specs.Kinds.{basin, reach, dam, tanks, by_kind}
 use Rattle.elements.proofs.KindLaws.{by-basin, by-reach, by-dam, by-none, kind-cases}
-use Rattle.fields.specs.Ranges.{all_below}
 use Rattle.table.specs.Tables.{TableValues}
 use Rattle.table.specs.KindCounts.{extra_count}
 use Rattle.cells.specs.Cells.{cell_at, cells}
 use Rattle.cells.proofs.CellLaws.{Cell, last, inner, cell-of, last-place, inner-at, last-basin, inner-kind, cell-used}
 use Rattle.state.specs.declared.Rains.{Rains}
-use Rattle.state.specs.States.{State, ElementState, elements_of, steps_of, figures_of, rains_of, cell_figures, cell_rains, place_of}
+use Rattle.state.specs.States.{State, ElementState, elements_of, steps_of, figures_of, cell_figures, cell_rains, place_of}
 use Rattle.state.specs.Rules.{figures_fit, rains_fit, place_fits, elements_fit, tanks_fit, state_fits}
 use Rattle.state.specs.Bounds.{RainsUnder, StateBounds}
 

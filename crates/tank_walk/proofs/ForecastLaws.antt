@@ -2,7 +2,7 @@
 -- cells are kept; the rows of other tanks serve the next element of tanks again.
 use Prim.Native.Nat.{ℕ, suc, ◌+◌, ◌-◌, ◌*◌, ◌≤◌, ◌<◌}
 use mathlib.Core.List.{List}
-use mathlib.Core.Logic.{⊎_elim, ◌≢◌}
+use mathlib.Core.Logic.{⊎_elim}
 use mathlib.Core.Path.{◌≡◌, refl, sym, ap, subst, fun_ext, ◌∙◌}
 use native.Mathlib.Nat.{eq-or-lt_of_le}
 use native.Mathlib.Omega.{arith}
@@ -11,11 +11,9 @@ use Rattle.refusal.specs.declared.Refusal.{Refusal}
 use Rattle.refusal.specs.declared.Verdict.{Verdict}
 use Rattle.refusal.specs.declared.Verdict.TheVariants.{Accepted, Refused}
 use Rattle.units.specs.Units.{thousandths}
-use Rattle.units.specs.declared.Variance.{Variance}
 use Rattle.units.proofs.UnderLaws.{Under}
 use Rattle.method.specs.declared.Figures.{Figures}
 use Rattle.method.specs.Inflow.{no_inflow}
-use Rattle.elements.specs.declared.Element.{Element}
 use Rattle.elements.specs.Kinds.{by_kind, extra_tanks}
 use Rattle.table.specs.Tables.{TableValues}
 use Rattle.table.specs.KindCounts.{extra_before, extra_count}
@@ -29,7 +27,7 @@ use Rattle.element_step.specs.Bounds.{tank_element}
 use Rattle.element_step.specs.Answers.{own_at}
 use Rattle.network.specs.Step.{weight_of, no_observation}
 use Rattle.network.specs.Forecast.{forecast_own, lead_figures, lead_numbers}
-use Rattle.network.proofs.NumbersLaws.{lead_own, numbers_at, figures-again, lead-part, lead-whole}
+use Rattle.network.proofs.NumbersLaws.{lead_own, figures-again, lead-part, lead-whole}
 use Rattle.answer_space.specs.Places.{figures_at, most_sum_before, FiguresBelow}
 use Rattle.one_lead.specs.declared.ElementInput.{ElementInput}
 use Rattle.one_lead.specs.Worked.{tank_input}
@@ -39,7 +37,7 @@ use Rattle.lead_walk.specs.Worked.{drained_at, LeadsDone}
 use Rattle.lead_walk.proofs.NetworkLaws.{InputOf, walked-begin, walked_at, walked-small, element-under}
 use Rattle.tank_walk.specs.declared.TankPlaces.{TankPlaces}
 use Rattle.tank_walk.specs.Rows.{resting, IsLast, own_row}
-use Rattle.tank_walk.specs.Tanks.{tank_place, RowMoved, TanksWorked, TanksOpened}
+use Rattle.tank_walk.specs.Tanks.{tank_place, TanksWorked, TanksOpened}
 use Rattle.tank_walk.proofs.RowLaws.{
   tank_row,
   tank-place,

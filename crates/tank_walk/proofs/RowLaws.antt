@@ -1,23 +1,20 @@
 -- The rows of a working space, by the river's cells: where each waits. Row 0 has what leaves the river, row e what element number e waits
 -- for and then its figures; tanks above the last of their element stand in rows after these.
-use Prim.Native.Nat.{ℕ, zero, suc, ◌+◌, ◌-◌, ◌*◌, ◌≤◌, ◌<◌}
+use Prim.Native.Nat.{ℕ, zero, suc, ◌+◌, ◌*◌, ◌≤◌, ◌<◌}
 use mathlib.Core.Bool.{Bool, true, false, cond}
-use mathlib.Core.List.{List}
-use mathlib.Core.Logic.{◌⊎◌, inl, inr, ◌≢◌, ⊎_elim}
+use mathlib.Core.Logic.{◌≢◌, ⊎_elim}
 use mathlib.Core.Path.{◌≡◌, refl, sym, ap, subst, ◌∙◌}
-use borrow.Author.Tests.{leb-true, leb-false, eqb-true, eqb-false, eq-eqb, ne_eqb}
+use borrow.Author.Tests.{leb-true, leb-false, eqb-true, eq-eqb, ne_eqb}
 use native.Mathlib.Nat.{eq-or-lt_of_le}
 use native.Mathlib.Numerals.{add-one}
 use native.Mathlib.Omega.{arith}
 use lib.Dec.{leb, eqb}
 use Rattle.table.specs.Tables.{TableValues}
-use Rattle.walk.specs.Space.{Later}
 use Rattle.elements.specs.Kinds.{extra_tanks}
 use Rattle.table.specs.KindCounts.{extra_before}
 use Rattle.cells.specs.Cells.{first_cell, last_cell, element_among, element_of, inlet_of}
-use Rattle.cells.proofs.CellLaws.{CellIn, element-of, last-is, last-in, last-rises}
+use Rattle.cells.proofs.CellLaws.{CellIn, element-of, last-is, last-rises}
 use Rattle.lead_walk.specs.Network.{Inlet, row, closed, opening}
-use Rattle.tank_walk.specs.declared.TankPlaces.{TankPlaces}
 use Rattle.tank_walk.specs.Rows.{resting, IsLast}
 use Rattle.tank_walk.specs.Tanks.{tank_place}
 

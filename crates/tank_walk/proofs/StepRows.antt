@@ -33,7 +33,7 @@ use Rattle.answer_space.specs.Places.{figures_at, most_sum_before, FiguresBelow}
 use Rattle.one_lead.specs.declared.ElementInput.{ElementInput}
 use Rattle.one_lead.specs.Worked.{tank_input}
 use Rattle.lead_walk.specs.Leads.{numbers_after}
-use Rattle.lead_walk.specs.Network.{Inlet, row, opening, Walked}
+use Rattle.lead_walk.specs.Network.{Inlet, opening, Walked}
 use Rattle.lead_walk.specs.Worked.{Apart, drained_at, LeadsDone}
 use Rattle.lead_walk.proofs.NetworkLaws.{new_at, numbers_at, InputOf, walked-small, element-under}
 use Rattle.tank_walk.specs.declared.TankPlaces.{TankPlaces}

@@ -1,8 +1,8 @@
 -- The turn of one tank in the code, and the tanks one after the other: what the code relies on, and what is then known.
-use Prim.Native.Nat.{ℕ, ◌+◌, ◌*◌, ◌≤◌, ◌<◌}
+use Prim.Native.Nat.{ℕ, ◌+◌, ◌*◌, ◌<◌}
 use mathlib.Core.List.{List}
 use mathlib.Core.Logic.{◌≢◌, ⊎_elim, inr, inl}
-use mathlib.Core.Path.{◌≡◌, refl, sym, subst, ◌∙◌}
+use mathlib.Core.Path.{◌≡◌, refl, sym, subst}
 use borrow.Author.Tests.{eq-eqb, ne_eqb}
 use native.Mathlib.Nat.{eq-or-lt_of_le}
 use native.Mathlib.Omega.{arith}
@@ -16,7 +16,7 @@ use Rattle.method.specs.Inflow.{no_inflow}
 use Rattle.record.specs.declared.Observation.TheVariants.{Nothing}
 use Rattle.record.specs.Decoded.{ObservationFits}
 use Rattle.state.specs.States.{State, figures_of}
-use Rattle.answer_space.specs.Places.{figures_at, most_sum_before, FiguresBelow}
+use Rattle.answer_space.specs.Places.{most_sum_before, FiguresBelow}
 use Rattle.one_lead.specs.Worked.{tank_input}
 use Rattle.lead_walk.specs.Worked.{TankReady, ElementWorked}
 use Rattle.tank_walk.specs.declared.TankPlaces.{TankPlaces}

@@ -1,6 +1,6 @@
 -- The turn of an element at a step or in a forecast, tank by tank: its sums moved to the row of the first tank, one turn a tank, and its last
 -- cell in its own row.
-use Prim.Native.Nat.{ℕ, zero, suc, ◌+◌, ◌-◌, ◌*◌, ◌≤◌, ◌<◌}
+use Prim.Native.Nat.{ℕ, suc, ◌+◌, ◌*◌, ◌≤◌, ◌<◌}
 use mathlib.Core.Bool.{Bool, true, false, cond}
 use mathlib.Core.List.{List}
 use mathlib.Core.Logic.{◌⊎◌, inl, inr, ◌≢◌, ⊎_elim}
@@ -17,14 +17,13 @@ use Rattle.refusal.specs.Verdicts.{verdict_answer}
 use Rattle.refusal.proofs.RuleLaws.{not-both}
 use Rattle.units.proofs.UnderLaws.{Under, under-accepted}
 use Rattle.method.specs.declared.Figures.{Figures}
-use Rattle.method.specs.Inflow.{no_inflow}
 use Rattle.elements.specs.declared.Element.{Element}
 use Rattle.table.specs.Tables.{TableValues}
 use Rattle.record.specs.declared.Observation.{Observation}
 use Rattle.walk.specs.Space.{Later}
 use Rattle.elements.specs.Kinds.{tanks, extra_tanks}
-use Rattle.table.specs.KindCounts.{extra_before, extra_count}
-use Rattle.cells.specs.Cells.{first_cell, last_cell, element_of, inlet_of, last_of, tank_of, draining_into, cell_at, cells}
+use Rattle.table.specs.KindCounts.{extra_before}
+use Rattle.cells.specs.Cells.{first_cell, last_cell, inlet_of, last_of, tank_of, draining_into, cells}
 use Rattle.cells.proofs.CellLaws.{first_next, last-most, last-cell, inner-cell, cell-used, inlet-later}
 use Rattle.network.specs.Step.{network_down}
 use Rattle.answer_space.specs.Places.{figures_at}
@@ -32,7 +31,7 @@ use Rattle.answer_space.proofs.PlacesLaws.{same-element}
 use Rattle.one_lead.specs.declared.ElementInput.{ElementInput}
 use Rattle.lead_walk.specs.Leads.{numbers_after}
 use Rattle.lead_walk.specs.Worked.{drained_at, LeadsDone}
-use Rattle.lead_walk.specs.Network.{Inlet, row, closed, opening, inlet_at, sum_at, Walked}
+use Rattle.lead_walk.specs.Network.{Inlet, row, closed, opening, inlet_at, Walked}
 use Rattle.lead_walk.proofs.NetworkLaws.{new_at, InputOf, TurnRows, walked_same, numbers_at, element-under, walked-opened, walked-again}
 use Rattle.tank_walk.specs.Tanks.{RowCleared, RowMoved, TanksWorked, done, refused, more}
 use Rattle.tank_walk.specs.Rows.{resting}

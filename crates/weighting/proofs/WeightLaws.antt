@@ -1,6 +1,6 @@
 -- Laws of the series weight.
 use Prim.Native.Nat.{ℕ, zero, suc, ◌+◌, ◌-◌, ◌*◌, ◌/◌, ◌≤◌, ◌<◌}
-use mathlib.Core.Path.{◌≡◌, refl, sym}
+use mathlib.Core.Path.{◌≡◌, sym}
 use native.Mathlib.Nat.{mul-le-mul, mul-le-mul_left, mul-le-mul_right, div-mul-le_self, lt-div-mul-add, div-le_of_le-mul, div-le_self, div-eq_of_lt-le, div-div-eq-div-mul}
 use native.Mathlib.Omega.{arith}
 use Rattle.units.specs.Units.{S}

@@ -1,5 +1,4 @@
 -- `add_figures` meets its contract.
-use borrow.Author.Rules.{rules}
 use Rattle.answer_space.proofs.add_figures.Goals as goal
 
 pub joined-requires : goal.joined-requires

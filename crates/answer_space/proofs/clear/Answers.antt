@@ -1,9 +1,7 @@
 -- `clear` meets its contract.
-use Prim.Native.Nat.{ℕ, ◌≤◌, ◌<◌, ◌-◌}
-use mathlib.Core.Path.{◌≡◌, refl}
-use borrow.Author.Rules.{rules}
+use mathlib.Core.Path.{refl}
 use native.Mathlib.Omega.{arith}
-use lib.ListN.{length, length-set, get_or}
+use lib.ListN.{length-set}
 use Rattle.fields.proofs.PlacesLaws.{filled_more}
 use Rattle.answer_space.proofs.EmptyLaws.{all-empty}
 use Rattle.answer_space.proofs.clear.Goals as goal

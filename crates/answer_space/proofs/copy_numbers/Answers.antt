@@ -1,10 +1,8 @@
 -- `copy_numbers` meets its contract.
-use Prim.Native.Nat.{◌≤◌, ◌-◌}
 use mathlib.Core.Path.{◌≡◌, refl}
-use borrow.Author.Rules.{rules}
 use native.Mathlib.Omega.{arith}
-use lib.ListN.{length, length-set}
-use lib.Seq.{paste, paste-zero}
+use lib.ListN.{length-set}
+use lib.Seq.{paste-zero}
 use Rattle.answer_space.proofs.CopyLaws.{copied_more, copied_all}
 use Rattle.answer_space.proofs.copy_numbers.Goals as goal
 

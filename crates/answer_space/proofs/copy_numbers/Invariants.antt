@@ -1,12 +1,9 @@
 -- The loop of `copy_numbers`.
 -- `copy_numbers` meets its contract.
-use Prim.Native.Nat.{◌≤◌, ◌-◌}
-use mathlib.Core.Path.{◌≡◌, refl}
-use borrow.Author.Rules.{rules}
-use native.Mathlib.Omega.{arith}
-use lib.ListN.{length, length-set}
-use lib.Seq.{paste, paste-zero}
-use Rattle.answer_space.proofs.CopyLaws.{copied_more, copied_all}
+use Prim.Native.Nat.{◌≤◌}
+use mathlib.Core.Path.{◌≡◌}
+use lib.ListN.{length}
+use lib.Seq.{paste}
 use Rattle.answer_space.proofs.copy_numbers.Given as goal
 
 abbrev pub invariant-loop-k : goal.invariant-loop-k

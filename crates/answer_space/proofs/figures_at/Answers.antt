@@ -1,6 +1,5 @@
 -- `figures_at` meets its contract.
 use mathlib.Core.Path.{refl}
-use borrow.Author.Rules.{rules}
 use Rattle.answer_space.specs.Places.{figures_at}
 use Rattle.answer_space.proofs.figures_at.Goals as goal
 

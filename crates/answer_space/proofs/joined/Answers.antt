@@ -1,6 +1,5 @@
 -- `joined` meets its contract.
 use mathlib.Core.Path.{refl}
-use borrow.Author.Rules.{rules}
 use Rattle.method.specs.Inflow.{joined_inflow}
 use Rattle.answer_space.proofs.joined.Goals as goal
 

@@ -1,5 +1,4 @@
 -- `put_and_add` meets its contract.
-use borrow.Author.Rules.{rules}
 use Rattle.answer_space.proofs.PlacesLaws.{add-ready, put-then-added}
 use Rattle.answer_space.proofs.put_and_add.Goals as goal
 

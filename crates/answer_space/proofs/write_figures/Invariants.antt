@@ -1,12 +1,9 @@
 -- The loop of `write_figures`.
 -- `write_figures` meets its contract.
-use Prim.Native.Nat.{◌*◌, ◌≤◌, ◌-◌}
-use mathlib.Core.Path.{◌≡◌, refl}
-use borrow.Author.Rules.{rules}
-use native.Mathlib.Omega.{arith}
+use Prim.Native.Nat.{◌*◌, ◌≤◌}
+use mathlib.Core.Path.{◌≡◌}
 use lib.ListN.{length, drop}
-use lib.Seq.{paste, paste-zero}
-use Rattle.answer_space.proofs.CopyLaws.{copied_all, figures-copied}
+use lib.Seq.{paste}
 use Rattle.answer_space.proofs.write_figures.Given as goal
 
 abbrev pub invariant-loop-i : goal.invariant-loop-i

@@ -3,17 +3,15 @@ use Prim.Native.Nat.{ℕ, ◌-◌, ◌≤◌}
 use mathlib.Core.List.{List}
 use mathlib.Core.Path.{◌≡◌, sym, ap, ◌∙◌}
 use native.Mathlib.Omega.{arith}
-use borrow.Author.Rules.{rules}
 use lib.ListN.{length, length-replicate}
 use lib.Seq.{length-take-le}
 use Rattle.sizes.specs.Sizes.{state_numbers, input_buffer}
 use Rattle.state.specs.States.{State}
 use Rattle.table_input.specs.Start.{empty_state}
-use Rattle.cabinet.proofs.LoopLaws.{first_fits, written-less, answered_less, read-few, read_fits, read-less}
+use Rattle.cabinet.proofs.LoopLaws.{first_fits, written-less, answered_less, read-less}
 use Rattle.program_run.specs.Machine.{Held}
-use Rattle.program_run.proofs.MeasureLaws.{size}
 use Rattle.progress.specs.Places.{held_in}
-use Rattle.machine.specs.Buffers.{BuffersFit, WorkingSpace}
+use Rattle.machine.specs.Buffers.{WorkingSpace}
 use Rattle.cabinet.proofs.main.Goals as goal
 
 empty-length : (s : State) → s ≡ empty_state → length s ≡ state_numbers
@@ -42,12 +40,11 @@ abbrev held_at-3 : goal.In-Answer → Held
 held_at-3 c = held_in c.loop-size.progress c.loop-size.input c.loop-size.table c.loop-size.state c.loop-size.out
 
 pub loop-size-init : goal.loop-size-init
-loop-size-init c =
-    (
-      first_fits _ _ _ _ _ _ c.first_progress-progress.ensures c.input_buffer-input.ensures c.table_buffer-table.ensures c.weight_space-weights.ensures
-          (empty-length _ c.empty_state-state.ensures) c.text_buffer-out.ensures,
-      record { space_whole = sym c.forecast_space-space.ensures; digits = c.digit_fours-fours.ensures },
-    )
+loop-size-init c = (
+  first_fits _ _ _ _ _ _ c.first_progress-progress.ensures c.input_buffer-input.ensures c.table_buffer-table.ensures c.weight_space-weights.ensures
+      (empty-length _ c.empty_state-state.ensures) c.text_buffer-out.ensures,
+  record { space_whole = sym c.forecast_space-space.ensures; digits = c.digit_fours-fours.ensures },
+)
 
 pub slice_bounds-out-end : goal.slice_bounds-out-end
 slice_bounds-out-end c = c.proceed-turn.ensures.write _ c.in-Write.is

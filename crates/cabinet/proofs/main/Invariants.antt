@@ -1,16 +1,4 @@
 -- The loop of `main`.
-use Prim.Native.Nat.{ℕ, ◌-◌, ◌≤◌}
-use mathlib.Core.List.{List}
-use mathlib.Core.Path.{◌≡◌, sym, ap, ◌∙◌}
-use native.Mathlib.Omega.{arith}
-use borrow.Author.Rules.{rules}
-use lib.ListN.{length, length-replicate}
-use lib.Seq.{length-take-le}
-use Rattle.sizes.specs.Sizes.{state_numbers, input_buffer}
-use Rattle.state.specs.States.{State}
-use Rattle.table_input.specs.Start.{empty_state}
-use Rattle.cabinet.proofs.LoopLaws.{first_fits, written-less, answered_less, read-few, read_fits, read-less}
-use Rattle.program_run.specs.Machine.{Held}
 use Rattle.program_run.proofs.MeasureLaws.{size}
 use Rattle.progress.specs.Places.{held_in}
 use Rattle.machine.specs.Buffers.{BuffersFit, WorkingSpace}

@@ -1,5 +1,4 @@
 -- `correct` meets its contract.
-use borrow.Author.Rules.{rules}
 use mathlib.Core.Path.{sym, subst, ◌∙◌}
 use native.Mathlib.Omega.{arith}
 use Rattle.weighting.specs.Estimates.{EstimateFits}
@@ -47,10 +46,9 @@ variance_left-left-requires c =
     (c.requires.0, (c.requires.1.0, old-fits-3 c))
 
 pub returns : goal.returns
-returns c =
-    (
-      c.new.ensures.0 ∙ figures-judged _ _ _ _ _ _ _ _ _ c.variance_estimate-old.ensures
-          c.discharge_estimate.ensures c.gain_of-gain.ensures.0 c.gain_margin_of-gain_margin.ensures.0 c.blend-q.ensures.0
-          c.variance_left-left.ensures,
-      c.new.ensures.1,
-    )
+returns c = (
+  c.new.ensures.0 ∙ figures-judged _ _ _ _ _ _ _ _ _ c.variance_estimate-old.ensures
+      c.discharge_estimate.ensures c.gain_of-gain.ensures.0 c.gain_margin_of-gain_margin.ensures.0 c.blend-q.ensures.0
+      c.variance_left-left.ensures,
+  c.new.ensures.1,
+)

@@ -1,10 +1,8 @@
 -- `curve_fits` meets its contract.
 use mathlib.Core.Path.{◌≡◌, sym}
 use native.Mathlib.Omega.{arith}
-use borrow.Author.Tests.{not-true, not-false}
 use Rattle.gauges.specs.Gauges.{curve_at}
 use Rattle.curve_rules.proofs.CurveLaws.{count_low, count-high}
-use borrow.Author.Rules.{rules}
 use Rattle.curve_rules.proofs.curve_fits.Goals as goal
 
 counted : (c : goal.Then-count-lt1) → c.wide-count.result ≡ (curve_at c.args.table.now c.args.at).count

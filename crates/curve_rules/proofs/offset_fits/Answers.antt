@@ -1,5 +1,4 @@
 -- `offset_fits` meets its contract.
-use borrow.Author.Rules.{rules}
 use Rattle.gauges.specs.Rules.{offset_fits}
 use Rattle.curve_rules.proofs.offset_fits.Goals as goal
 

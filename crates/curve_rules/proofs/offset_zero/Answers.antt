@@ -1,5 +1,4 @@
 -- `offset_zero` meets its contract.
-use borrow.Author.Rules.{rules}
 use Rattle.gauges.specs.Rules.{offset_zero}
 use Rattle.curve_rules.proofs.offset_zero.Goals as goal
 

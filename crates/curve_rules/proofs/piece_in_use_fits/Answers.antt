@@ -1,7 +1,6 @@
 -- `piece_in_use_fits` meets its contract.
 use mathlib.Core.Path.{sym, ◌∙◌}
-use borrow.Author.Rules.{rules}
-use borrow.Author.Tests.{lt-ltb, le-ltb, not-true, not-false}
+use borrow.Author.Tests.{lt-ltb, le-ltb}
 use Rattle.gauges.specs.Rules.{piece_in_use_fits}
 use Rattle.curve_rules.proofs.piece_in_use_fits.Goals as goal
 

@@ -1,5 +1,4 @@
 -- `piece_unused` meets its contract.
-use borrow.Author.Rules.{rules}
 use Rattle.gauges.specs.Rules.{piece_unused}
 use Rattle.curve_rules.proofs.piece_unused.Goals as goal
 

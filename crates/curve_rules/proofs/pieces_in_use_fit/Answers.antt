@@ -1,10 +1,8 @@
 -- `pieces_in_use_fit` meets its contract.
-use Prim.Native.Nat.{◌≤◌, ◌<◌, ◌-◌}
-use mathlib.Core.Bool.{true, true≢false}
+use Prim.Native.Nat.{◌<◌}
+use mathlib.Core.Bool.{true≢false}
 use mathlib.Core.Path.{◌≡◌, sym, ap, ◌∙◌}
-use borrow.Author.Rules.{rules}
 use native.Mathlib.Omega.{arith}
-use Rattle.fields.specs.Ranges.{all_below}
 use Rattle.fields.proofs.RangeLaws.{all_none}
 use Rattle.gauges.specs.Gauges.{curve_at}
 use Rattle.gauges.specs.Rules.{piece_of, top_before, piece_fits}

@@ -1,10 +1,6 @@
 -- `pieces_unused` meets its contract.
-use Prim.Native.Nat.{◌≤◌, ◌-◌}
-use mathlib.Core.Bool.{true}
 use mathlib.Core.Path.{◌≡◌, sym, ◌∙◌}
-use borrow.Author.Rules.{rules}
 use native.Mathlib.Omega.{arith}
-use Rattle.fields.specs.Ranges.{all_below}
 use Rattle.gauges.specs.Gauges.{curve_at}
 use Rattle.gauges.specs.Rules.{piece_of, piece_fits}
 use Rattle.gauges.proofs.GaugeLaws.{piece-stands}

@@ -1,15 +1,11 @@
 -- The loop of `pieces_unused`.
 -- `pieces_unused` meets its contract.
-use Prim.Native.Nat.{◌≤◌, ◌-◌}
+use Prim.Native.Nat.{◌≤◌}
 use mathlib.Core.Bool.{true}
-use mathlib.Core.Path.{◌≡◌, sym, ◌∙◌}
-use borrow.Author.Rules.{rules}
-use native.Mathlib.Omega.{arith}
+use mathlib.Core.Path.{◌≡◌}
 use Rattle.fields.specs.Ranges.{all_below}
 use Rattle.gauges.specs.Gauges.{curve_at}
-use Rattle.gauges.specs.Rules.{piece_of, piece_fits}
-use Rattle.gauges.proofs.GaugeLaws.{piece-stands}
-use Rattle.curve_rules.proofs.CurveLaws.{not-in-use, piece-kept, piece-broken, all-broken, curve-kept}
+use Rattle.gauges.specs.Rules.{piece_fits}
 use Rattle.curve_rules.proofs.pieces_unused.Given as goal
 
 abbrev pub invariant-loop-j : goal.invariant-loop-j

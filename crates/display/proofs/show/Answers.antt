@@ -1,7 +1,6 @@
 -- `show` meets its contract.
 use Prim.Native.Nat.{◌≤◌}
 use mathlib.Core.Path.{◌≡◌, ap, ◌∙◌}
-use borrow.Author.Rules.{rules}
 use Rattle.units.specs.Units.{C, grains}
 use Rattle.units.specs.declared.Discharge.{Discharge}
 use Rattle.units.proofs.AnswerLaws.{discharge-over, discharge-known}

@@ -1,7 +1,5 @@
 -- `down_fits` meets its contract.
 use borrow.Author.Tests.{eq-eqb, ne_eqb, lt-ltb, le-ltb, le-leb, lt-leb}
-use borrow.Author.Rules.{rules}
-use native.Mathlib.Omega.{arith}
 use Rattle.elements.specs.Rules.{down_fits}
 use Rattle.down_rules.proofs.down_fits.Goals as goal
 

@@ -1,8 +1,7 @@
 -- `basin_fits` meets its contract.
 use mathlib.Core.Bool.{and-false}
 use mathlib.Core.Path.{sym, ◌∙◌}
-use borrow.Author.Rules.{rules}
-use borrow.Author.Tests.{le-leb, lt-leb, not-true, not-false}
+use borrow.Author.Tests.{le-leb, lt-leb}
 use lib.Dec.{leb-zero}
 use Rattle.elements.specs.Rules.{basin_fits}
 use Rattle.element_rules.proofs.basin_fits.Goals as goal

@@ -1,5 +1,4 @@
 -- `dam_fits` meets its contract.
-use borrow.Author.Rules.{rules}
 use borrow.Author.Tests.{eq-eqb, ne_eqb}
 use Rattle.elements.specs.Rules.{dam_fits}
 use Rattle.element_rules.proofs.dam_fits.Goals as goal

@@ -1,6 +1,5 @@
 -- `judge_element` meets its contract.
 use mathlib.Core.Bool.{and-true, and-false}
-use borrow.Author.Rules.{rules}
 use borrow.Author.Tests.{le-leb, lt-leb}
 use lib.Dec.{leb-zero}
 use Rattle.elements.specs.Rules.{element_fits}

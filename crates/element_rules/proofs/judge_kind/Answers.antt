@@ -1,6 +1,5 @@
 -- `judge_kind` meets its contract.
 use mathlib.Core.Bool.{true, false}
-use borrow.Author.Rules.{rules}
 use Rattle.fields.proofs.RangeLaws.{kept, broken}
 use Rattle.element_rules.proofs.JudgedLaws.{basin-judged, reach-judged, dam-judged, rest-judged}
 use Rattle.element_rules.proofs.judge_kind.Goals as goal

@@ -1,8 +1,6 @@
 -- `tanks_fit` meets its contract.
 use mathlib.Core.Bool.{Bool, true, false, ◌&&◌, and-true, and-false}
 use mathlib.Core.Path.{◌≡◌, refl, ◌∙◌}
-use borrow.Author.Rules.{rules}
-use borrow.Author.Tests.{not-true, not-false}
 use lib.Dec.{eqb}
 use Rattle.fields.specs.Ranges.{in_range}
 use Rattle.fields.proofs.RangeLaws.{all_three}

@@ -1,5 +1,4 @@
 -- `correct_by` meets its contract.
-use borrow.Author.Rules.{rules}
 use mathlib.Core.Path.{sym, subst, ◌∙◌}
 use Rattle.units.proofs.CeilingLaws.{none_left, passes, stays}
 use Rattle.method.specs.Figures.{AnsweredFiguresFit}

@@ -1,5 +1,4 @@
 -- `step_basin` meets its contract.
-use borrow.Author.Rules.{rules}
 use Rattle.method.specs.Figures.{AnsweredFiguresFit}
 use Rattle.method.proofs.FiguresLaws.{accepted-fits}
 use Rattle.element_step.proofs.StepLaws.{inflow-passes, inflow-accepted}
@@ -20,9 +19,8 @@ route_variance-requires c =
     (p.weight, (p.element.system_noise, (accepted-fits c.in-Accepted.is c.basin_inflow.ensures.1, p.old)))
 
 pub returns : goal.returns
-returns c =
-    (
-      inflow-accepted _ _ _ _ c.basin_inflow.ensures.0 c.in-Accepted.is c.route_discharge.ensures
-          c.route_variance.ensures c.routed_figures.ensures.0,
-      c.routed_figures.ensures.1,
-    )
+returns c = (
+  inflow-accepted _ _ _ _ c.basin_inflow.ensures.0 c.in-Accepted.is c.route_discharge.ensures
+      c.route_variance.ensures c.routed_figures.ensures.0,
+  c.routed_figures.ensures.1,
+)

@@ -1,6 +1,5 @@
 -- `step_element` meets its contract.
 use mathlib.Core.Path.{sym, ◌∙◌}
-use borrow.Author.Rules.{rules}
 use Rattle.method.specs.Figures.{AnsweredFiguresFit}
 use Rattle.method.proofs.FiguresLaws.{accepted-fits}
 use Rattle.elements.proofs.KindLaws.{no_other}
@@ -26,18 +25,16 @@ correct_by-requires-in-2 c =
     (c.requires.0.observation, accepted-fits c.in-Accepted-step_reach.is c.step_reach.ensures.1)
 
 pub returns-in-Accepted : goal.returns-in-Accepted
-returns-in-Accepted c =
-    (
-      move-accepted _ _ _ _ _ c.step_basin.ensures.0 c.in-Accepted.is c.correct_by.ensures.0 ∙ basin-answered _ _ _ _ c.in-1.is (sym c.requires.1),
-      c.correct_by.ensures.1,
-    )
+returns-in-Accepted c = (
+  move-accepted _ _ _ _ _ c.step_basin.ensures.0 c.in-Accepted.is c.correct_by.ensures.0 ∙ basin-answered _ _ _ _ c.in-1.is (sym c.requires.1),
+  c.correct_by.ensures.1,
+)
 
 pub returns-in-Accepted-step_reach : goal.returns-in-Accepted-step_reach
-returns-in-Accepted-step_reach c =
-    (
-      move-accepted _ _ _ _ _ c.step_reach.ensures.0 c.in-Accepted-step_reach.is c.correct_by-in-2.ensures.0 ∙ reach-answered _ _ _ _ c.in-2.is,
-      c.correct_by-in-2.ensures.1,
-    )
+returns-in-Accepted-step_reach c = (
+  move-accepted _ _ _ _ _ c.step_reach.ensures.0 c.in-Accepted-step_reach.is c.correct_by-in-2.ensures.0 ∙ reach-answered _ _ _ _ c.in-2.is,
+  c.correct_by-in-2.ensures.1,
+)
 
 pub returns-in-3 : goal.returns-in-3
 unfolding AnsweredFiguresFit

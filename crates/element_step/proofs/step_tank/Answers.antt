@@ -1,5 +1,4 @@
 -- `step_tank` meets its contract.
-use borrow.Author.Rules.{rules}
 use Rattle.method.specs.Figures.{AnsweredFiguresFit}
 use Rattle.method.proofs.FiguresLaws.{accepted-fits}
 use Rattle.element_step.proofs.StepLaws.{move-passes, move-accepted}

@@ -1,13 +1,11 @@
 -- `put_weights` meets its contract.
-use Prim.Native.Nat.{ℕ, ◌≤◌, ◌<◌, ◌-◌}
-use mathlib.Core.Path.{◌≡◌, refl}
-use borrow.Author.Rules.{rules}
+use Prim.Native.Nat.{◌<◌}
+use mathlib.Core.Path.{refl}
 use native.Mathlib.Omega.{arith}
-use lib.ListN.{length, length-set, get_or}
+use lib.ListN.{length, length-set}
 use Rattle.sizes.specs.Sizes.{most_elements}
 use Rattle.fields.proofs.PlacesLaws.{filled_more}
 use Rattle.table.specs.InUse.{table_in}
-use Rattle.element_weights.specs.Weights.{element_weight}
 use Rattle.element_weights.proofs.put_weights.Goals as goal
 
 used : (c : goal.In-loop-i) → c.loop-i.i < (table_in c.args.table.now).elements

@@ -1,11 +1,7 @@
 -- The loop of `put_weights`.
-use Prim.Native.Nat.{ℕ, ◌≤◌, ◌<◌, ◌-◌}
-use mathlib.Core.Path.{◌≡◌, refl}
-use borrow.Author.Rules.{rules}
-use native.Mathlib.Omega.{arith}
-use lib.ListN.{length, length-set, get_or}
-use Rattle.sizes.specs.Sizes.{most_elements}
-use Rattle.fields.proofs.PlacesLaws.{filled_more}
+use Prim.Native.Nat.{ℕ, ◌≤◌, ◌<◌}
+use mathlib.Core.Path.{◌≡◌}
+use lib.ListN.{length, get_or}
 use Rattle.table.specs.InUse.{table_in}
 use Rattle.element_weights.specs.Weights.{element_weight}
 use Rattle.element_weights.proofs.put_weights.Given as goal

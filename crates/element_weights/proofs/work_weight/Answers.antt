@@ -1,6 +1,5 @@
 -- `work_weight` meets its contract.
 use native.Mathlib.Omega.{arith}
-use borrow.Author.Rules.{rules}
 use Rattle.element_weights.proofs.WeightsLaws.{lag-bounds, weight-worked, no-weight}
 use Rattle.element_weights.proofs.work_weight.Goals as goal
 

@@ -1,5 +1,4 @@
 -- `down_at` meets its contract.
-use borrow.Author.Rules.{rules}
 use Rattle.elements.specs.Elements.{element_at}
 use Rattle.elements.proofs.down_at.Goals as goal
 

@@ -1,8 +1,6 @@
 -- `extra_of` meets its contract.
-use borrow.Author.Rules.{rules}
 use borrow.Author.Tests.{eq-eqb, ne_eqb}
-use mathlib.Core.Path.{◌≡◌, refl, sym, ◌∙◌}
-use native.Mathlib.Omega.{arith}
+use mathlib.Core.Path.{◌≡◌, sym, ◌∙◌}
 use Rattle.elements.specs.Elements.{element_at}
 use Rattle.elements.specs.Kinds.{tanks, extra_tanks}
 use Rattle.elements.proofs.extra_of.Goals as goal

@@ -1,5 +1,4 @@
 -- `kind_at` meets its contract.
-use borrow.Author.Rules.{rules}
 use Rattle.elements.specs.Elements.{element_at}
 use Rattle.elements.proofs.kind_at.Goals as goal
 

@@ -1,5 +1,4 @@
 -- `lag_at` meets its contract.
-use borrow.Author.Rules.{rules}
 use Rattle.elements.specs.Elements.{element_at}
 use Rattle.elements.proofs.lag_at.Goals as goal
 

@@ -1,5 +1,4 @@
 -- `start` meets its contract.
-use borrow.Author.Rules.{rules}
 use Rattle.table.proofs.HeldLaws.{table-accepted, table-refused}
 use Rattle.entries.specs.Entries.{start_answer}
 use Rattle.engine.proofs.EntryLaws.{start-accepted, refused-by-table}

@@ -1,5 +1,4 @@
 -- `step` meets its contract.
-use borrow.Author.Rules.{rules}
 use Rattle.table.proofs.HeldLaws.{table-accepted, table-refused}
 use Rattle.table.proofs.TableLaws.{rules-accepted}
 use Rattle.state.proofs.AnswerLaws.{answered-as}

@@ -1,8 +1,6 @@
 -- `step_counted` meets its contract.
-use borrow.Author.Rules.{rules}
 use mathlib.Core.Bool.{true}
 use mathlib.Core.Path.{◌≡◌, refl, sym, ◌∙◌}
-use borrow.Author.Tests.{not-true, not-false}
 use Rattle.table.specs.InUse.{table_in}
 use Rattle.state.specs.Rules.{elements_fit}
 use Rattle.state.proofs.StateLaws.{elements-refused}

@@ -1,5 +1,4 @@
 -- `put_decimal` meets its contract.
-use borrow.Author.Rules.{rules}
 use native.Mathlib.Omega.{arith}
 use Rattle.text.proofs.PlacesLaws.{put_then, put_same}
 use Rattle.figure_text.proofs.GroupLaws.{upper-and-last}

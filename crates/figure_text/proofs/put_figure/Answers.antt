@@ -1,5 +1,4 @@
 -- `put_figure` meets its contract.
-use lib.ListN.{length-set}
 use native.Mathlib.Omega.{arith}
 use Rattle.text.proofs.DecimalLaws.{decimal-short}
 use Rattle.text.proofs.PlacesLaws.{put_byte}

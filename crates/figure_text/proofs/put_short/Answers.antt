@@ -1,5 +1,4 @@
 -- `put_short` meets its contract.
-use borrow.Author.Rules.{rules}
 use Prim.Native.Nat.{◌+◌}
 use native.Mathlib.Omega.{arith}
 use Rattle.text.proofs.DecimalLaws.{decimal-1, decimal-2, decimal-3, decimal-4}

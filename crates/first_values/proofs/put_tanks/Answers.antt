@@ -1,9 +1,6 @@
 -- `put_tanks` meets its contract.
-use Prim.Native.Nat.{◌≤◌, ◌-◌}
 use mathlib.Core.Path.{◌≡◌}
-use borrow.Author.Rules.{rules}
 use native.Mathlib.Omega.{arith}
-use Rattle.state.specs.States.{changed, figures_put}
 use Rattle.state.proofs.StateLaws.{changed-none, figures-put-more}
 use Rattle.first_values.proofs.put_tanks.Goals as goal
 

@@ -1,10 +1,7 @@
 -- The loop of `put_tanks`.
-use Prim.Native.Nat.{◌≤◌, ◌-◌}
+use Prim.Native.Nat.{◌≤◌}
 use mathlib.Core.Path.{◌≡◌}
-use borrow.Author.Rules.{rules}
-use native.Mathlib.Omega.{arith}
 use Rattle.state.specs.States.{changed, figures_put}
-use Rattle.state.proofs.StateLaws.{changed-none, figures-put-more}
 use Rattle.first_values.proofs.put_tanks.Given as goal
 
 abbrev pub invariant-loop-j : goal.invariant-loop-j

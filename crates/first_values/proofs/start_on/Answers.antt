@@ -1,18 +1,13 @@
 -- `start_on` meets its contract.
-use Prim.Native.Nat.{◌+◌, ◌≤◌, ◌<◌, ◌-◌}
-use mathlib.Core.Path.{◌≡◌, sym, ap, ◌∙◌}
-use borrow.Author.Rules.{rules}
+use Prim.Native.Nat.{◌+◌, ◌≤◌, ◌<◌}
+use mathlib.Core.Path.{◌≡◌}
 use native.Mathlib.Omega.{arith}
 use Rattle.sizes.specs.Sizes.{most_places}
-use Rattle.elements.specs.Elements.{element_at}
-use Rattle.elements.specs.Kinds.{extra_tanks}
 use Rattle.table.specs.KindCounts.{extra_before}
 use Rattle.table.specs.InUse.{table_in}
 use Rattle.table.proofs.CountLaws.{extra-none, extra-read, extra-rise}
 use Rattle.table.proofs.HeldLaws.{element-there, tanks-known}
-use Rattle.cells.specs.Cells.{first_cell}
-use Rattle.state.specs.States.{changed, figures_put}
-use Rattle.state.proofs.StateLaws.{first_change, first-none, first-again, started-done}
+use Rattle.state.proofs.StateLaws.{first-none, first-again, started-done}
 use Rattle.first_values.proofs.start_on.Goals as goal
 
 used : (c : goal.In-loop-i) → c.loop-i.i < (table_in c.args.table.now).elements

@@ -1,18 +1,11 @@
 -- The loop of `start_on`.
-use Prim.Native.Nat.{◌+◌, ◌≤◌, ◌<◌, ◌-◌}
-use mathlib.Core.Path.{◌≡◌, sym, ap, ◌∙◌}
-use borrow.Author.Rules.{rules}
-use native.Mathlib.Omega.{arith}
-use Rattle.sizes.specs.Sizes.{most_places}
-use Rattle.elements.specs.Elements.{element_at}
-use Rattle.elements.specs.Kinds.{extra_tanks}
+use Prim.Native.Nat.{◌+◌, ◌≤◌}
+use mathlib.Core.Path.{◌≡◌}
 use Rattle.table.specs.KindCounts.{extra_before}
 use Rattle.table.specs.InUse.{table_in}
-use Rattle.table.proofs.CountLaws.{extra-none, extra-read, extra-rise}
-use Rattle.table.proofs.HeldLaws.{element-there, tanks-known}
 use Rattle.cells.specs.Cells.{first_cell}
-use Rattle.state.specs.States.{changed, figures_put}
-use Rattle.state.proofs.StateLaws.{first_change, first-none, first-again, started-done}
+use Rattle.state.specs.States.{changed}
+use Rattle.state.proofs.StateLaws.{first_change}
 use Rattle.first_values.proofs.start_on.Given as goal
 
 abbrev pub invariant-loop-i : goal.invariant-loop-i

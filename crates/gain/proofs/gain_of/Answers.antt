@@ -1,5 +1,4 @@
 -- `gain_of` meets its contract.
-use borrow.Author.Rules.{rules}
 use mathlib.Core.Path.{refl}
 use native.Mathlib.Omega.{arith}
 use Rattle.units.specs.Units.{S}

@@ -1,5 +1,4 @@
 -- `judge_noise` meets its contract.
-use borrow.Author.Rules.{rules}
 use borrow.Author.Tests.{lt-ltb, le-ltb}
 use Rattle.units.specs.Ceiling.{some_passes, under_ceiling}
 use Rattle.gauge_look.specs.GaugeLooks.{noise_judged, judged_look}

@@ -1,5 +1,4 @@
 -- `look_at_field` meets its contract.
-use borrow.Author.Rules.{rules}
 use borrow.Author.Tests.{le-leb, lt-leb}
 use Rattle.gauge_look.specs.GaugeLooks.{no_look, reading_look}
 use Rattle.gauge_look.proofs.look_at_field.Goals as goal

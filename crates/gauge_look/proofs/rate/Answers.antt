@@ -1,5 +1,4 @@
 -- `rate` meets its contract.
-use borrow.Author.Rules.{rules}
 use Rattle.table.proofs.HeldLaws.{table-accepted, table-refused, counted-table}
 use Rattle.table.proofs.TableLaws.{rules-accepted, rules-refused}
 use Rattle.gauge_look.specs.GaugeLooks.{no_look, rating_after, rating_answer}

@@ -1,6 +1,5 @@
 -- `gauge_fits` meets its contract.
 use mathlib.Core.Path.{◌≡◌}
-use borrow.Author.Rules.{rules}
 use native.Mathlib.Omega.{arith}
 use Rattle.units.specs.Units.{C}
 use Rattle.fields.specs.Ranges.{in_range}

@@ -1,16 +1,9 @@
 -- `gauges_fit` meets its contract.
-use Prim.Native.Nat.{◌≤◌, ◌-◌}
-use mathlib.Core.Bool.{true}
 use mathlib.Core.Path.{◌≡◌, refl, sym, ◌∙◌}
-use borrow.Author.Rules.{rules}
-use borrow.Author.Tests.{not-true, not-false}
 use native.Mathlib.Omega.{arith}
-use Rattle.fields.specs.Ranges.{all_below}
 use Rattle.fields.proofs.RangeLaws.{all_none, all_more, all-fails}
-use Rattle.elements.specs.Elements.{element_at}
-use Rattle.gauges.specs.Gauges.{gauge_at}
 use Rattle.gauges.specs.Places.{GaugePlaced}
-use Rattle.gauges.specs.Rules.{element_before, gauge_fits}
+use Rattle.gauges.specs.Rules.{element_before}
 use Rattle.gauges.proofs.GaugeLaws.{element-next, place-before}
 use Rattle.gauge_rules.proofs.gauges_fit.Goals as goal
 

@@ -4,7 +4,6 @@ use borrow.Author.Tests.{ne_eqb}
 use native.Mathlib.Omega.{arith}
 use Rattle.gauges.specs.Gauges.{table_version, beta_at}
 use Rattle.gauges.proofs.GaugeLaws.{size-two}
-use borrow.Author.Rules.{rules}
 use Rattle.gauges.proofs.beta_at.Goals as goal
 
 pub whole16-requires : goal.whole16-requires

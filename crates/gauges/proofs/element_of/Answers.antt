@@ -2,7 +2,6 @@
 use native.Mathlib.Omega.{arith}
 use Rattle.gauges.specs.Gauges.{gauge_from, gauge_at}
 use Rattle.gauges.proofs.GaugeLaws.{gauge-there}
-use borrow.Author.Rules.{rules}
 use Rattle.gauges.proofs.element_of.Goals as goal
 
 pub bounds-table-place_of : goal.bounds-table-place_of

@@ -1,7 +1,6 @@
 -- `gauge_size` meets its contract.
 use Rattle.gauges.specs.Gauges.{table_version}
 use Rattle.gauges.proofs.GaugeLaws.{size-counted}
-use borrow.Author.Rules.{rules}
 use Rattle.gauges.proofs.gauge_size.Goals as goal
 
 pub returns : goal.returns

@@ -1,6 +1,5 @@
 -- `offset_of` meets its contract.
 use borrow.Author.Tests.{lt-ltb, le-ltb}
-use borrow.Author.Rules.{rules}
 use Rattle.gauges.specs.Gauges.{offset_of}
 use Rattle.gauges.proofs.offset_of.Goals as goal
 

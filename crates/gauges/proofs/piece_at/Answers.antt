@@ -1,5 +1,4 @@
 -- `piece_at` meets its contract.
-use borrow.Author.Rules.{rules}
 use Rattle.gauges.specs.Gauges.{piece_at}
 use Rattle.gauges.proofs.piece_at.Goals as goal
 

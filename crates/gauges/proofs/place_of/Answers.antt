@@ -2,7 +2,6 @@
 use native.Mathlib.Omega.{arith}
 use Rattle.gauges.specs.Gauges.{gauge_place}
 use Rattle.gauges.proofs.GaugeLaws.{size-product}
-use borrow.Author.Rules.{rules}
 use Rattle.gauges.proofs.place_of.Goals as goal
 
 pub overflow_mul-result-2 : goal.overflow_mul-result-2

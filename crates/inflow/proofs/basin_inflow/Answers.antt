@@ -1,5 +1,4 @@
 -- `basin_inflow` meets its contract.
-use borrow.Author.Rules.{rules}
 use native.Mathlib.Omega.{arith}
 use Rattle.inflow.specs.Basin.{basin_inflow}
 use Rattle.inflow.proofs.InflowLaws.{noise-product-le}

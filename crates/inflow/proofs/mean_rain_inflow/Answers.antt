@@ -1,6 +1,5 @@
 -- `mean_rain_inflow` meets its contract.
 use mathlib.Core.Path.{◌≡◌}
-use borrow.Author.Rules.{rules}
 use native.Mathlib.Omega.{arith}
 use Rattle.method.specs.Inflow.{mean_rain_inflow}
 use Rattle.inflow.proofs.InflowLaws.{area-product-le, volume-le}

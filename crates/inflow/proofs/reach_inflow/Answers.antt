@@ -1,5 +1,4 @@
 -- `reach_inflow` meets its contract.
-use borrow.Author.Rules.{rules}
 use Rattle.method.specs.Inflow.{reach_inflow}
 use Rattle.inflow.proofs.reach_inflow.Goals as goal
 

@@ -1,6 +1,5 @@
 -- `holds_record` meets its contract.
 use Rattle.input_parts.proofs.HoldLaws.{record-told}
-use borrow.Author.Rules.{rules}
 use Rattle.input_parts.proofs.holds_record.Goals as goal
 
 pub returns : goal.returns

@@ -1,6 +1,5 @@
 -- `holds_table` meets its contract.
 use Rattle.input_parts.proofs.HoldLaws.{table-short, table-long, table-told}
-use borrow.Author.Rules.{rules}
 use Rattle.input_parts.proofs.holds_table.Goals as goal
 
 pub returns-then-size-lt4 : goal.returns-then-size-lt4

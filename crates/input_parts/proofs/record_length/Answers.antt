@@ -1,6 +1,5 @@
 -- `record_length` meets its contract.
 use Rattle.input_parts.proofs.RecordEndLaws.{whole-record, cut_record}
-use borrow.Author.Rules.{rules}
 use Rattle.input_parts.proofs.record_length.Goals as goal
 
 pub returns-then-counted-left : goal.returns-then-counted-left

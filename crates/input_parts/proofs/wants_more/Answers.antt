@@ -1,6 +1,5 @@
 -- `wants_more` meets its contract.
 use Rattle.input_parts.proofs.HoldLaws.{over-told, lacking-told}
-use borrow.Author.Rules.{rules}
 use Rattle.input_parts.proofs.wants_more.Goals as goal
 
 pub returns-then-over : goal.returns-then-over

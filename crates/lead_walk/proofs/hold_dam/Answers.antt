@@ -1,9 +1,7 @@
 -- `hold_dam` meets its contract.
-use Prim.Native.Nat.{◌-◌}
 use mathlib.Core.Path.{refl}
-use borrow.Author.Rules.{rules}
 use native.Mathlib.Omega.{arith}
-use Rattle.lead_walk.proofs.LeadsLaws.{LeadsSoFar, leads-begin, lead-ready, leads-again, leads-done}
+use Rattle.lead_walk.proofs.LeadsLaws.{leads-begin, lead-ready, leads-again, leads-done}
 use Rattle.lead_walk.proofs.hold_dam.Goals as goal
 
 pub loop-k-init : goal.loop-k-init

@@ -1,8 +1,6 @@
 -- `store_element` meets its contract.
-use Prim.Native.Nat.{◌-◌}
-use borrow.Author.Rules.{rules}
 use native.Mathlib.Omega.{arith}
-use Rattle.lead_walk.proofs.LeadsLaws.{LeadsSoFar, leads-begin, lead-ready, number-few, leads-refused, leads-again, leads-done, element-accepted}
+use Rattle.lead_walk.proofs.LeadsLaws.{leads-begin, lead-ready, number-few, leads-refused, leads-again, leads-done, element-accepted}
 use Rattle.lead_walk.proofs.store_element.Goals as goal
 
 pub loop-k-init : goal.loop-k-init

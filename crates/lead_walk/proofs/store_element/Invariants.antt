@@ -1,8 +1,5 @@
 -- The loop of `store_element`.
-use Prim.Native.Nat.{◌-◌}
-use borrow.Author.Rules.{rules}
-use native.Mathlib.Omega.{arith}
-use Rattle.lead_walk.proofs.LeadsLaws.{LeadsSoFar, leads-begin, lead-ready, number-few, leads-refused, leads-again, leads-done, element-accepted}
+use Rattle.lead_walk.proofs.LeadsLaws.{LeadsSoFar}
 use Rattle.lead_walk.proofs.store_element.Given as goal
 
 abbrev pub invariant-loop-k : goal.invariant-loop-k

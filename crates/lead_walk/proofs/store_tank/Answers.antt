@@ -1,9 +1,6 @@
 -- `store_tank` meets its contract.
-use Prim.Native.Nat.{◌-◌}
-use borrow.Author.Rules.{rules}
 use native.Mathlib.Omega.{arith}
-use Rattle.one_lead.specs.Worked.{tank_input}
-use Rattle.lead_walk.proofs.LeadsLaws.{LeadsSoFar, leads-begin, lead-ready, leads-refused, leads-again, leads-done, element-accepted}
+use Rattle.lead_walk.proofs.LeadsLaws.{leads-begin, lead-ready, leads-refused, leads-again, leads-done, element-accepted}
 use Rattle.lead_walk.proofs.store_tank.Goals as goal
 
 pub loop-k-init : goal.loop-k-init

@@ -1,9 +1,6 @@
 -- The loop of `store_tank`.
-use Prim.Native.Nat.{◌-◌}
-use borrow.Author.Rules.{rules}
-use native.Mathlib.Omega.{arith}
 use Rattle.one_lead.specs.Worked.{tank_input}
-use Rattle.lead_walk.proofs.LeadsLaws.{LeadsSoFar, leads-begin, lead-ready, leads-refused, leads-again, leads-done, element-accepted}
+use Rattle.lead_walk.proofs.LeadsLaws.{LeadsSoFar}
 use Rattle.lead_walk.proofs.store_tank.Given as goal
 
 abbrev pub invariant-loop-k : goal.invariant-loop-k

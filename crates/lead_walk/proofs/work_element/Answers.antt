@@ -1,5 +1,4 @@
 -- `work_element` meets its contract.
-use borrow.Author.Rules.{rules}
 use Rattle.lead_walk.proofs.LeadsLaws.{element-accepted}
 use Rattle.lead_walk.proofs.work_element.Goals as goal
 

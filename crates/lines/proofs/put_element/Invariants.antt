@@ -1,14 +1,11 @@
 -- The loop of `put_element`.
-use Prim.Native.Nat.{ℕ, ◌+◌, ◌*◌, ◌-◌, ◌≤◌}
+use Prim.Native.Nat.{ℕ, ◌+◌, ◌*◌, ◌≤◌}
 use mathlib.Core.List.{List}
-use mathlib.Core.Path.{◌≡◌, refl, ap, ◌∙◌}
-use native.Mathlib.Omega.{arith}
+use mathlib.Core.Path.{◌≡◌}
 use lib.ListN.{length, take}
 use Rattle.text.specs.Places.{Put}
-use Rattle.text.proofs.PlacesLaws.{put-before, put_same}
 use Rattle.lines.specs.Printed.{joined}
-use Rattle.lines.specs.Starts.{line_after, lines_after}
-use Rattle.lines.proofs.PrintedLaws.{joined-none, joined-more, joined-all, fewer-under}
+use Rattle.lines.specs.Starts.{line_after}
 use Rattle.lines.proofs.put_element.Given as goal
 
 abbrev pub line_of : List ℕ → ℕ → ℕ → List ℕ → ℕ → List ℕ

@@ -1,5 +1,4 @@
 -- `put_figures` meets its contract.
-use borrow.Author.Rules.{rules}
 use Prim.Native.Nat.{◌+◌}
 use native.Mathlib.Omega.{arith}
 use Rattle.lines.proofs.PrintedLaws.{figures-put}

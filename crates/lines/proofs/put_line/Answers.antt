@@ -1,5 +1,4 @@
 -- `put_line` meets its contract.
-use mathlib.Core.Path.{◌∙◌}
 use native.Mathlib.Omega.{arith}
 use lib.Seq.{length-take-le}
 use Rattle.lines.proofs.PrintedLaws.{line-put}

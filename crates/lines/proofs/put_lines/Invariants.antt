@@ -1,14 +1,11 @@
 -- The loop of `put_lines`.
-use Prim.Native.Nat.{◌+◌, ◌*◌, ◌-◌, ◌≤◌}
+use Prim.Native.Nat.{◌+◌, ◌*◌, ◌≤◌}
 use mathlib.Core.List.{[], ◌∷◌, ◌++◌}
-use mathlib.Core.Path.{◌≡◌, refl, ◌∙◌, sym}
-use native.Mathlib.Omega.{arith}
+use mathlib.Core.Path.{◌≡◌}
 use lib.ListN.{length, take}
 use Rattle.text.specs.Decimal.{decimal}
 use Rattle.text.specs.Places.{Put}
-use Rattle.text.proofs.PlacesLaws.{put_same}
-use Rattle.lines.specs.Printed.{joined, element_lines, answer_lines}
-use Rattle.lines.proofs.PrintedLaws.{joined-none, joined-more, joined-all, rows-within, lines_start, fewer-under}
+use Rattle.lines.specs.Printed.{joined, element_lines}
 use Rattle.lines.proofs.put_lines.Given as goal
 
 abbrev pub invariant-loop-i : goal.invariant-loop-i

@@ -1,5 +1,4 @@
 -- `put_refusal` meets its contract.
-use mathlib.Core.Path.{◌∙◌, refl}
 use native.Mathlib.Omega.{arith}
 use Rattle.lines.proofs.PrintedLaws.{refusal-put}
 use Rattle.lines.proofs.put_refusal.Goals as goal

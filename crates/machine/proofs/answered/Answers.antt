@@ -1,6 +1,5 @@
 -- `answered` meets its contract.
 use Rattle.machine.proofs.TurnLaws.{record-due}
-use borrow.Author.Rules.{rules}
 use Rattle.machine.proofs.answered.Goals as goal
 
 pub next_answered-requires : goal.next_answered-requires

@@ -3,7 +3,6 @@ use mathlib.Core.Path.{sym}
 use native.Mathlib.Omega.{arith}
 use lib.Seq.{length-take-le}
 use Rattle.machine.proofs.AnswerLaws.{answered-as, records-stopped, due-ready, record-answered}
-use borrow.Author.Rules.{rules}
 use Rattle.machine.proofs.next_answered.Goals as goal
 
 pub returns-then-from-have : goal.returns-then-from-have

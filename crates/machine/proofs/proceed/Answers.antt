@@ -1,6 +1,5 @@
 -- `proceed` meets its contract.
 use Rattle.machine.proofs.TurnLaws.{turn-write, turn_end, turn-read, answer-due, turn-answer}
-use borrow.Author.Rules.{rules}
 use Rattle.machine.proofs.proceed.Goals as goal
 
 pub returns-then-text_due : goal.returns-then-text_due
@@ -19,15 +18,14 @@ returns-then-wants c =
     c.if-text_due.false c.if-ended.false c.if-wants.true c.moved_front-progress.ensures c.moved_front-progress.auto.input
 
 pub answered-progress-requires : goal.answered-progress-requires
-answered-progress-requires c =
-    (
-      c.requires.0,
-      (
-        c.requires.1,
-        answer-due _ _ _ _ _ _ c.requires.0 _ _ _ c.wants_more-wants.ensures c.has_ended-ended.ensures c.text_due.ensures
-            c.if-text_due.false c.if-ended.false c.if-wants.false,
-      ),
-    )
+answered-progress-requires c = (
+  c.requires.0,
+  (
+    c.requires.1,
+    answer-due _ _ _ _ _ _ c.requires.0 _ _ _ c.wants_more-wants.ensures c.has_ended-ended.ensures c.text_due.ensures
+        c.if-text_due.false c.if-ended.false c.if-wants.false,
+  ),
+)
 
 pub returns : goal.returns
 returns c =

@@ -2,7 +2,6 @@
 use mathlib.Core.Path.{sym}
 use lib.Seq.{length-take-le}
 use Rattle.machine.proofs.AnswerLaws.{answered-as, table-room, table-accepted, table-refused}
-use borrow.Author.Rules.{rules}
 use Rattle.machine.proofs.table_answered.Goals as goal
 
 pub slice_bounds-put_bytes-end : goal.slice_bounds-put_bytes-end

@@ -1,10 +1,9 @@
 -- `work_tanks` meets its contract: it calls itself once.
-use Prim.Native.Nat.{ℕ, ◌+◌, ◌*◌, ◌≤◌, ◌<◌}
+use Prim.Native.Nat.{ℕ, ◌+◌, ◌*◌, ◌≤◌}
 use mathlib.Core.Bool.{Bool, cond}
 use mathlib.Core.Path.{ap}
 use Rattle.sizes.specs.Sizes.{forecast_space}
 use Rattle.network_leads.proofs.TankTurnLaws.{tank-known, own-there, own-most, first-most, below-most, open-ready, tanks-above, last-ready, last_done}
-use borrow.Author.Rules.{rules}
 use native.Mathlib.Omega.{arith}
 use Rattle.network_leads.proofs.+work_tanks.Goals as goal
 

@@ -1,7 +1,6 @@
 -- `lead_input` meets its contract.
 use mathlib.Core.Path.{sym, ap, ◌∙◌}
 use native.Mathlib.Omega.{arith}
-use borrow.Author.Rules.{rules}
 use Rattle.units.specs.declared.Discharge.{Discharge}
 use Rattle.elements.proofs.KindLaws.{by-basin, by-reach, by-dam, by-none}
 use Rattle.table.proofs.HeldLaws.{element-bounds}

@@ -1,5 +1,4 @@
 -- `add_old_outflow` meets its contract.
-use borrow.Author.Rules.{rules}
 use Rattle.network_step.proofs.add_old_outflow.Goals as goal
 
 pub add_figures-requires : goal.add_figures-requires

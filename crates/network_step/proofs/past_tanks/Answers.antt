@@ -1,6 +1,5 @@
 -- `past_tanks` meets its contract.
 use native.Mathlib.Omega.{arith}
-use borrow.Author.Rules.{rules}
 use Rattle.network_step.proofs.StepLaws.{tanks-there, tanks-few, tanks-many, past-made}
 use Rattle.network_step.proofs.past_tanks.Goals as goal
 

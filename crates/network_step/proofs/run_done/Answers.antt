@@ -1,5 +1,4 @@
 -- `run_done` meets its contract.
-use borrow.Author.Rules.{rules}
 use Rattle.network_step.specs.Held.{is_done}
 use Rattle.network_step.proofs.run_done.Goals as goal
 

@@ -1,7 +1,6 @@
 -- `step_input` meets its contract.
 use mathlib.Core.Path.{sym, ◌∙◌}
 use native.Mathlib.Omega.{arith}
-use borrow.Author.Rules.{rules}
 use Rattle.elements.proofs.KindLaws.{by-basin, by-reach, by-dam, by-none, basin-counts, reach-counts, dam-counts, none-counts}
 use Rattle.network_step.specs.Inputs.{own_number}
 use Rattle.network_step.proofs.StepLaws.{input-made}

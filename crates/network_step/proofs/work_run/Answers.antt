@@ -1,10 +1,9 @@
 -- `work_run` meets its contract.
-use Prim.Native.Nat.{◌+◌, ◌≤◌, ◌<◌, ◌-◌}
+use Prim.Native.Nat.{◌+◌, ◌≤◌, ◌<◌}
 use mathlib.Core.Logic.{◌≢◌}
 use mathlib.Core.Path.{◌≡◌, refl, sym, ap, ◌∙◌}
-use borrow.Author.Rules.{rules}
 use native.Mathlib.Omega.{arith}
-use lib.ListN.{length, get_or}
+use lib.ListN.{get_or}
 use Rattle.sizes.specs.Sizes.{most_elements}
 use Rattle.units.specs.Units.{S}
 use Rattle.elements.specs.declared.Element.{Element}
@@ -24,7 +23,7 @@ use Rattle.one_lead.proofs.LeadLaws.{new-ready}
 use Rattle.lead_walk.proofs.LeadsLaws.{work-step-refused, work-step-done}
 use Rattle.network_step.specs.declared.StepInput.{StepInput}
 use Rattle.network_step.specs.Inputs.{input_of, step_input}
-use Rattle.network_step.specs.Held.{PassedBefore, ReachedIn, RunEnded}
+use Rattle.network_step.specs.Held.{PassedBefore, RunEnded}
 use Rattle.network_step.proofs.StepLaws.{passed-more, passed-few, rain-most, rain-room, release-room, old-outflow-ready, old-added, step-ready, stepping-again, stepping-refused, reached-again, met-tanks, reached-all}
 use Rattle.network_step.proofs.work_run.Goals as goal
 
@@ -358,8 +357,7 @@ loop-i-smaller c = omega (arith, c.loop-i-test.true)
 pub loop-i-preserved : goal.loop-i-preserved
 loop-i-preserved c =
     let inv = c.loop-i.invariant in
-    let p = c.requires.ready in
-    (
+    let p = c.requires.ready in (
       omega (arith, inv.0),
       (
         omega (arith, c.work_step-worked.auto.space, inv.1.0),

@@ -1,9 +1,8 @@
 -- `work_step` meets its contract.
-use Prim.Native.Nat.{ℕ, ◌+◌, ◌-◌, ◌*◌, ◌≤◌}
+use Prim.Native.Nat.{ℕ, ◌+◌, ◌*◌, ◌≤◌}
 use mathlib.Core.List.{List, [], ◌∷◌}
 use mathlib.Core.Logic.{⊎_elim}
-use mathlib.Core.Path.{◌≡◌, refl}
-use borrow.Author.Rules.{rules}
+use mathlib.Core.Path.{refl}
 use native.Mathlib.Omega.{arith}
 use denote.Enum.Declared.{tag_of}
 use types.Run.{OneOf}
@@ -220,8 +219,7 @@ loop-met-smaller c =
     omega (arith, past-element _ _ c.past_tanks-from.ensures, (met-there-4 c).later, (met-there-4 c).used, (header-5 c).elements)
 
 pub loop-met-preserved : goal.loop-met-preserved
-loop-met-preserved c =
-    (
-      omega (arith, c.work_tanks-worked.auto.space, c.work_run-end.auto.space, c.loop-met.invariant.0),
-      reached-now c,
-    )
+loop-met-preserved c = (
+  omega (arith, c.work_tanks-worked.auto.space, c.work_run-end.auto.space, c.loop-met.invariant.0),
+  reached-now c,
+)

@@ -1,9 +1,8 @@
 -- `write_tanks` meets its contract.
-use Prim.Native.Nat.{◌+◌, ◌≤◌, ◌-◌}
+use Prim.Native.Nat.{◌+◌}
 use mathlib.Core.Path.{◌≡◌, ap, ◌∙◌}
-use borrow.Author.Rules.{rules}
 use native.Mathlib.Omega.{arith}
-use Rattle.state.specs.States.{changed, figures_put, put_figures}
+use Rattle.state.specs.States.{put_figures}
 use Rattle.state.proofs.StateLaws.{changed-none, figures-put-more}
 use Rattle.answer_space.specs.Places.{figures_at}
 use Rattle.next_state.proofs.write_tanks.Goals as goal
@@ -12,11 +11,10 @@ pub loop-x-init : goal.loop-x-init
 loop-x-init c = (omega arith, changed-none _ _)
 
 pub loop-x-preserved : goal.loop-x-preserved
-loop-x-preserved c =
-    (
-      omega arith,
-      figures-put-more (λ k. figures_at _ (_ + k + 1)) _ _ _ c.loop-x.invariant.1 (c.put_figures.ensures ∙ ap (put_figures _ _) c.figures_at.ensures),
-    )
+loop-x-preserved c = (
+  omega arith,
+  figures-put-more (λ k. figures_at _ (_ + k + 1)) _ _ _ c.loop-x.invariant.1 (c.put_figures.ensures ∙ ap (put_figures _ _) c.figures_at.ensures),
+)
 
 pub returns : goal.returns
 returns c =

@@ -1,10 +1,7 @@
 -- The loop of `write_tanks`.
-use Prim.Native.Nat.{◌+◌, ◌≤◌, ◌-◌}
-use mathlib.Core.Path.{◌≡◌, ap, ◌∙◌}
-use borrow.Author.Rules.{rules}
-use native.Mathlib.Omega.{arith}
-use Rattle.state.specs.States.{changed, figures_put, put_figures}
-use Rattle.state.proofs.StateLaws.{changed-none, figures-put-more}
+use Prim.Native.Nat.{◌+◌, ◌≤◌}
+use mathlib.Core.Path.{◌≡◌}
+use Rattle.state.specs.States.{changed, figures_put}
 use Rattle.answer_space.specs.Places.{figures_at}
 use Rattle.next_state.proofs.write_tanks.Given as goal
 

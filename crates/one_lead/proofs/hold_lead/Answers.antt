@@ -1,5 +1,4 @@
 -- `hold_lead` meets its contract.
-use borrow.Author.Rules.{rules}
 use Rattle.method.specs.Figures.{FiguresFit}
 use Rattle.element_step.proofs.StepLaws.{released-fit}
 use Rattle.one_lead.proofs.LeadLaws.{ready-first, places-ready, new-kept, old-ready-last, both-kept-last, dam-worked}

@@ -1,5 +1,4 @@
 -- `tank_lead` meets its contract.
-use borrow.Author.Rules.{rules}
 use Rattle.method.proofs.FiguresLaws.{accepted-fits}
 use Rattle.one_lead.proofs.LeadLaws.{tank-refused, old-ready, new-ready, places-ready, new-kept, both-kept, tank-accepted, tank-ready}
 use Rattle.one_lead.proofs.tank_lead.Goals as goal

@@ -1,5 +1,4 @@
 -- `work_lead` meets its contract.
-use borrow.Author.Rules.{rules}
 use Rattle.method.proofs.FiguresLaws.{accepted-fits}
 use Rattle.method.specs.Inflow.{old_and_new_outflow}
 use Rattle.one_lead.proofs.LeadLaws.{lead-refused, old-ready, new-ready, places-ready, new-kept, both-kept, lead-accepted}

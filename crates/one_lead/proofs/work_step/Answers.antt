@@ -1,5 +1,4 @@
 -- `work_step` meets its contract.
-use borrow.Author.Rules.{rules}
 use Rattle.method.proofs.FiguresLaws.{accepted-fits}
 use Rattle.one_lead.proofs.LeadLaws.{lead-refused, places-ready, new-kept, lead-accepted}
 use Rattle.one_lead.proofs.work_step.Goals as goal

@@ -1,5 +1,4 @@
 -- `after_record` meets its contract.
-use borrow.Author.Rules.{rules}
 use Rattle.progress.proofs.after_record.Goals as goal
 
 pub returns : goal.returns

@@ -1,5 +1,4 @@
 -- `left_after` meets its contract.
-use borrow.Author.Rules.{rules}
 use Rattle.progress.proofs.left_after.Goals as goal
 
 pub returns-else-ended : goal.returns-else-ended

@@ -1,10 +1,7 @@
 -- The loop of `move_front`.
-use Prim.Native.Nat.{◌+◌, ◌-◌, ◌≤◌, ◌<◌}
-use mathlib.Core.Path.{◌≡◌, refl}
-use native.Mathlib.Omega.{arith}
-use borrow.Author.Rules.{rules}
-use lib.ListN.{length, take, drop, length-set}
-use Rattle.progress.proofs.MoveLaws.{moved_more, rest_more}
+use Prim.Native.Nat.{◌-◌, ◌≤◌}
+use mathlib.Core.Path.{◌≡◌}
+use lib.ListN.{length, take, drop}
 use Rattle.progress.proofs.move_front.Given as goal
 
 abbrev pub invariant-loop-i : goal.invariant-loop-i

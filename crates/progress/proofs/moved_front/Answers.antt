@@ -1,7 +1,6 @@
 -- `moved_front` meets its contract.
 use mathlib.Core.Path.{refl}
 use Rattle.progress.proofs.PlacesLaws.{moved-front-held}
-use borrow.Author.Rules.{rules}
 use Rattle.progress.proofs.moved_front.Goals as goal
 
 pub returns : goal.returns

@@ -1,6 +1,5 @@
 -- `text_due` meets its contract.
 use Rattle.progress.proofs.TestLaws.{no_text, out-at-end, out-before-read, out-when-full}
-use borrow.Author.Rules.{rules}
 use Rattle.progress.proofs.text_due.Goals as goal
 
 pub returns-then-at-eq0 : goal.returns-then-at-eq0

@@ -1,5 +1,4 @@
 -- `sum_of` meets its contract.
-use borrow.Author.Rules.{rules}
 use mathlib.Core.Path.{sym, ap, subst, ◌∙◌}
 use Rattle.state.specs.declared.Rains.{Rains}
 use Rattle.state.specs.Bounds.{RainsUnder}

@@ -1,11 +1,7 @@
 -- `discharge_at` meets its contract.
-use borrow.Author.Rules.{rules}
 use borrow.Author.Tests.{lt-ltb, le-ltb}
-use native.Mathlib.Nat.{mul-le-mul}
-use native.Mathlib.Omega.{arith}
 use Rattle.units.proofs.AnswerLaws.{discharge-over, discharge-known}
 use Rattle.rating.specs.Rating.{discharge_at}
-use Rattle.rating.proofs.RatingLaws.{product_le}
 use Rattle.rating.proofs.discharge_at.Goals as goal
 
 pub returns-in_default : goal.returns-in_default

@@ -1,8 +1,6 @@
 -- `noise_of` meets its contract.
 use mathlib.Core.Path.{refl}
-use native.Mathlib.Omega.{arith}
 use Rattle.rating.specs.Noise.{deviation, noise_of}
-use Rattle.rating.proofs.NoiseLaws.{beta-product, deviation-square}
 use Rattle.rating.proofs.noise_of.Goals as goal
 
 pub returns : goal.returns

@@ -1,7 +1,6 @@
 -- `rate_on_piece` meets its contract.
 use Prim.Native.Nat.{◌≤◌}
 use mathlib.Core.Path.{subst}
-use borrow.Author.Rules.{rules}
 use borrow.Author.Tests.{lt-ltb, le-ltb}
 use native.Mathlib.Omega.{arith}
 use Rattle.rating.specs.Rating.{on_piece, depth, OffsetFits}

@@ -1,8 +1,7 @@
 -- `step_lent` meets its contract: it calls itself once.
-use Prim.Native.Nat.{ℕ, ◌<◌}
+use Prim.Native.Nat.{ℕ}
 use mathlib.Core.Bool.{Bool, cond}
 use mathlib.Core.Path.{ap}
-use borrow.Author.Rules.{rules}
 use native.Mathlib.Omega.{arith}
 use Rattle.record_step.proofs.+step_lent.Goals as goal
 

@@ -1,7 +1,5 @@
 -- `judge_step` meets its contract.
-use borrow.Author.Rules.{rules}
 use mathlib.Core.Path.{sym, ◌∙◌}
-use borrow.Author.Tests.{not-true, not-false}
 use Rattle.record_step.proofs.StepLaws.{limit-judged, record-judged}
 use Rattle.record_step.proofs.judge_step.Goals as goal
 

@@ -1,5 +1,4 @@
 -- `step_medium` meets its contract.
-use borrow.Author.Rules.{rules}
 use native.Mathlib.Omega.{arith}
 use Rattle.sizes.specs.Sizes.{most_elements, observed_numbers, medium_step_space}
 use Rattle.record_step.proofs.StepLaws.{spaces-ready}

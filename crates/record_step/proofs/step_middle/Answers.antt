@@ -1,5 +1,4 @@
 -- `step_middle` meets its contract.
-use borrow.Author.Rules.{rules}
 use native.Mathlib.Omega.{arith}
 use Rattle.sizes.specs.Sizes.{middle_elements, observed_numbers, middle_step_space}
 use Rattle.record_step.proofs.StepLaws.{spaces-ready}

@@ -1,5 +1,4 @@
 -- `step_small` meets its contract.
-use borrow.Author.Rules.{rules}
 use native.Mathlib.Omega.{arith}
 use Rattle.sizes.specs.Sizes.{small_elements, small_observed_numbers, small_step_space}
 use Rattle.record_step.proofs.StepLaws.{few-gauges, spaces-ready}

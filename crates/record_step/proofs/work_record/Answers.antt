@@ -1,8 +1,6 @@
 -- `work_record` meets its contract.
-use borrow.Author.Rules.{rules}
 use Prim.Native.Nat.{◌*◌, ◌≤◌}
 use mathlib.Core.Bool.{true, false}
-use borrow.Author.Tests.{not-true, not-false}
 use native.Mathlib.Omega.{arith}
 use Rattle.table.specs.InUse.{table_in}
 use Rattle.network_step.specs.Held.{under_verdict}

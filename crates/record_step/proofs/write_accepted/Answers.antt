@@ -1,5 +1,4 @@
 -- `write_accepted` meets its contract.
-use borrow.Author.Rules.{rules}
 use mathlib.Core.Path.{◌≡◌, refl, ap}
 use Prim.Native.Nat.{ℕ, ◌*◌}
 use Rattle.table.specs.InUse.{table_in}

@@ -1,6 +1,5 @@
 -- `answer_refusal` meets its contract.
 use Rattle.refusal_answer.proofs.RefusalLaws.{refusal-text}
-use borrow.Author.Rules.{rules}
 use Rattle.refusal_answer.proofs.answer_refusal.Goals as goal
 
 pub returns : goal.returns

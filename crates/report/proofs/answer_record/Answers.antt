@@ -1,5 +1,4 @@
 -- `answer_record` meets its contract.
-use borrow.Author.Rules.{rules}
 use native.Mathlib.Omega.{arith}
 use Rattle.cells.proofs.BoundsLaws.{cells-bounds}
 use Rattle.entries.proofs.NextLaws.{answered-fits}

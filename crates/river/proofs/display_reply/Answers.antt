@@ -1,6 +1,5 @@
 -- `display_reply` meets its contract.
 use mathlib.Core.Path.{◌≡◌, refl}
-use borrow.Author.Rules.{rules}
 use lib.Ieee.{binary64, of_bits, of_int}
 use Rattle.river.specs.Replies.{no_float, display_reply}
 use Rattle.river.proofs.display_reply.Goals as goal

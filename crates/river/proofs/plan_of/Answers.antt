@@ -2,7 +2,6 @@
 use Prim.Native.Nat.{◌+◌, ◌*◌, ◌≤◌}
 use native.Mathlib.Nat.{mul-le-mul}
 use native.Mathlib.Omega.{arith}
-use borrow.Author.Rules.{rules}
 use Rattle.sizes.specs.Sizes.{most_leads, answer_numbers}
 use Rattle.river.specs.Replies.{plan_of}
 use Rattle.river.proofs.plan_of.Goals as goal

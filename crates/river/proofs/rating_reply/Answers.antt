@@ -1,5 +1,4 @@
 -- `rating_reply` meets its contract.
-use borrow.Author.Rules.{rules}
 use Rattle.river.specs.Replies.{refusal_of, discharge_in, noise_in, rating_reply}
 use Rattle.river.proofs.rating_reply.Goals as goal
 

@@ -1,5 +1,4 @@
 -- `refusal_of` meets its contract.
-use borrow.Author.Rules.{rules}
 use Rattle.river.specs.Replies.{refusal_of}
 use Rattle.river.proofs.refusal_of.Goals as goal
 

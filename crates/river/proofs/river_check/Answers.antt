@@ -1,5 +1,4 @@
 -- `river_check` meets its contract.
-use borrow.Author.Rules.{rules}
 use native.Mathlib.Nat.{le_trans}
 use Rattle.table.proofs.CountLaws.{basins-most, dams-most}
 use Rattle.table.proofs.HeldLaws.{table-accepted, table-refused}

@@ -1,5 +1,4 @@
 -- `river_forecast` meets its contract.
-use borrow.Author.Rules.{rules}
 use Rattle.river.proofs.ReplyLaws.{forecast-replied}
 use Rattle.river.proofs.river_forecast.Goals as goal
 

@@ -1,6 +1,5 @@
 -- `river_rate` meets its contract.
 use mathlib.Core.Path.{ap, ◌∙◌}
-use borrow.Author.Rules.{rules}
 use Rattle.river.specs.Replies.{rating_reply}
 use Rattle.river.proofs.river_rate.Goals as goal
 

@@ -1,6 +1,5 @@
 -- `river_show` meets its contract.
 use mathlib.Core.Path.{ap, ◌∙◌}
-use borrow.Author.Rules.{rules}
 use Rattle.river.specs.Replies.{display_reply}
 use Rattle.river.proofs.river_show.Goals as goal
 

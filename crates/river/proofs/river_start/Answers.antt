@@ -1,5 +1,4 @@
 -- `river_start` meets its contract.
-use borrow.Author.Rules.{rules}
 use Rattle.river.proofs.ReplyLaws.{state-replied}
 use Rattle.river.proofs.river_start.Goals as goal
 

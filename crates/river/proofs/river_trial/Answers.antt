@@ -1,5 +1,4 @@
 -- `river_trial` meets its contract.
-use borrow.Author.Rules.{rules}
 use Rattle.river.proofs.ReplyLaws.{forecast-replied}
 use Rattle.river.proofs.river_trial.Goals as goal
 

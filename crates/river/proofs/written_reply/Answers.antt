@@ -1,5 +1,4 @@
 -- `written_reply` meets its contract.
-use borrow.Author.Rules.{rules}
 use Rattle.river.specs.Replies.{written_reply}
 use Rattle.river.proofs.written_reply.Goals as goal
 

@@ -1,8 +1,5 @@
 -- `route_discharge` meets its contract.
-use borrow.Author.Rules.{rules}
-use native.Mathlib.Omega.{arith}
 use Rattle.method.specs.Routing.{routed_discharge}
-use Rattle.method.proofs.FiguresLaws.{discharge-fits}
 use Rattle.routing.proofs.route_discharge.Goals as goal
 
 pub returns : goal.returns

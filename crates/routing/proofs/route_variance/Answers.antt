@@ -1,5 +1,4 @@
 -- `route_variance` meets its contract.
-use borrow.Author.Rules.{rules}
 use Prim.Native.Nat.{◌-◌}
 use mathlib.Core.Path.{◌≡◌, sym, subst}
 use native.Mathlib.Omega.{arith}
@@ -9,7 +8,6 @@ use Rattle.weighting.specs.Blend.{blend_answer}
 use Rattle.weighting.proofs.BlendLaws.{blend-known, blend-over}
 use Rattle.method.specs.Figures.{variance}
 use Rattle.method.specs.Routing.{old_variance_part, inflow_variance_part}
-use Rattle.method.proofs.FiguresLaws.{variance-fits}
 use Rattle.routing.proofs.RoutingLaws.{old-part-passes, inflow-part-passes, parts-accepted}
 use Rattle.routing.proofs.route_variance.Goals as goal
 

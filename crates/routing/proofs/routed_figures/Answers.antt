@@ -1,5 +1,4 @@
 -- `routed_figures` meets its contract.
-use borrow.Author.Rules.{rules}
 use Rattle.method.specs.Figures.{AnsweredFiguresFit}
 use Rattle.routing.specs.Parts.{routed_answer}
 use Rattle.routing.proofs.routed_figures.Goals as goal

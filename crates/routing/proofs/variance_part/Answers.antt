@@ -1,5 +1,4 @@
 -- `variance_part` meets its contract.
-use borrow.Author.Rules.{rules}
 use Rattle.units.proofs.AnswerLaws.{variance-over, variance-known}
 use Rattle.weighting.specs.Estimates.{AnsweredEstimateFits}
 use Rattle.weighting.proofs.BlendLaws.{blend-refused, blend-accepted}

@@ -1,6 +1,5 @@
 -- `with_noise` meets its contract.
 use mathlib.Core.Path.{ap, subst}
-use borrow.Author.Rules.{rules}
 use Rattle.units.specs.Answers.{discharge_answer}
 use Rattle.rating.specs.Noise.{with_noise}
 use Rattle.rating.specs.Bounds.{RatingFits}

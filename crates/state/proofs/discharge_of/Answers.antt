@@ -1,6 +1,5 @@
 -- `discharge_of` meets its contract.
 use mathlib.Core.Path.{refl}
-use borrow.Author.Rules.{rules}
 use Rattle.state.specs.States.{figures_of}
 use Rattle.state.proofs.discharge_of.Goals as goal
 

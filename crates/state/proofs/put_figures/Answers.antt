@@ -1,5 +1,4 @@
 -- `put_figures` meets its contract.
-use borrow.Author.Rules.{rules}
 use mathlib.Core.Path.{refl}
 use Rattle.state.specs.States.{put_figures}
 use Rattle.state.proofs.put_figures.Goals as goal

@@ -1,5 +1,4 @@
 -- `put_rains` meets its contract.
-use borrow.Author.Rules.{rules}
 use mathlib.Core.Path.{refl}
 use Rattle.state.specs.States.{put_rains}
 use Rattle.state.proofs.put_rains.Goals as goal

@@ -1,5 +1,4 @@
 -- `rains_of` meets its contract.
-use borrow.Author.Rules.{rules}
 use mathlib.Core.Path.{refl}
 use Rattle.state.specs.States.{rains_of}
 use Rattle.state.proofs.rains_of.Goals as goal

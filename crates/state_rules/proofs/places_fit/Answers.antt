@@ -1,12 +1,8 @@
 -- `places_fit` meets its contract.
-use Prim.Native.Nat.{◌≤◌, ◌<◌, ◌-◌}
-use mathlib.Core.Bool.{true}
+use Prim.Native.Nat.{◌<◌}
 use mathlib.Core.Path.{◌≡◌, sym, ◌∙◌}
-use borrow.Author.Rules.{rules}
-use borrow.Author.Tests.{not-true, not-false}
 use native.Mathlib.Omega.{arith}
 use Rattle.sizes.specs.Sizes.{most_places}
-use Rattle.fields.specs.Ranges.{all_below}
 use Rattle.fields.proofs.RangeLaws.{all_none, all_more, all-fails}
 use Rattle.table.specs.InUse.{table_in}
 use Rattle.table.proofs.HeldLaws.{element-there}

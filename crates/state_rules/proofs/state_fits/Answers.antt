@@ -1,7 +1,6 @@
 -- `state_fits` meets its contract.
 use mathlib.Core.Bool.{and-false}
 use mathlib.Core.Path.{refl}
-use borrow.Author.Rules.{rules}
 use borrow.Author.Tests.{le-leb, lt-leb, eq-eqb, ne_eqb}
 use Rattle.state.proofs.StateLaws.{state-tested}
 use Rattle.state_rules.proofs.state_fits.Goals as goal

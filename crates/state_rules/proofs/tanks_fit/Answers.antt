@@ -1,11 +1,7 @@
 -- `tanks_fit` meets its contract.
-use Prim.Native.Nat.{◌+◌, ◌≤◌, ◌-◌}
-use mathlib.Core.Bool.{true}
+use Prim.Native.Nat.{◌+◌}
 use mathlib.Core.Path.{◌≡◌, sym, ap, ◌∙◌}
-use borrow.Author.Rules.{rules}
-use borrow.Author.Tests.{not-true, not-false}
 use native.Mathlib.Omega.{arith}
-use Rattle.fields.specs.Ranges.{all_below}
 use Rattle.fields.proofs.RangeLaws.{all_none, all_more, all-fails}
 use Rattle.state.specs.States.{figures_of}
 use Rattle.state.specs.Rules.{figures_fit}

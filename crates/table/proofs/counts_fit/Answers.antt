@@ -1,5 +1,4 @@
 -- `counts_fit` meets its contract.
-use borrow.Author.Rules.{rules}
 use Rattle.table.specs.Tables.{table_of}
 use Rattle.table.specs.Rules.{counts_fit}
 use Rattle.table.proofs.counts_fit.Goals as goal

@@ -1,5 +1,4 @@
 -- `counts_of` meets its contract.
-use borrow.Author.Rules.{rules}
 use Rattle.table.specs.Tables.{table_of}
 use Rattle.table.proofs.counts_of.Goals as goal
 

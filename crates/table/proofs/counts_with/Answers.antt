@@ -1,5 +1,4 @@
 -- `counts_with` meets its contract.
-use borrow.Author.Rules.{rules}
 use Rattle.table.proofs.HeldLaws.{counts-in-use}
 use Rattle.table.proofs.counts_with.Goals as goal
 

@@ -1,5 +1,4 @@
 -- `length_fits` meets its contract.
-use borrow.Author.Rules.{rules}
 use borrow.Author.Tests.{le-leb, lt-leb}
 use Rattle.table.specs.Rules.{length_fits}
 use Rattle.table.proofs.length_fits.Goals as goal

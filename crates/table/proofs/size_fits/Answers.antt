@@ -1,6 +1,5 @@
 -- `size_fits` meets its contract.
 use Prim.Native.Nat.{◌*◌, ◌≤◌}
-use borrow.Author.Rules.{rules}
 use native.Mathlib.Nat.{mul-le-mul}
 use native.Mathlib.Omega.{arith}
 use Rattle.gauges.proofs.GaugeLaws.{size-bounds}

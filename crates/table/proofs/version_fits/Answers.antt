@@ -1,5 +1,4 @@
 -- `version_fits` meets its contract.
-use borrow.Author.Rules.{rules}
 use Rattle.gauges.specs.Gauges.{table_version}
 use Rattle.table.specs.Rules.{version_fits}
 use Rattle.table.proofs.version_fits.Goals as goal

@@ -1,5 +1,4 @@
 -- `start_on` meets its contract.
-use borrow.Author.Rules.{rules}
 use mathlib.Core.Path.{refl}
 use native.Mathlib.Omega.{arith}
 use Rattle.table.proofs.HeldLaws.{table-accepted, table-refused}
@@ -12,8 +11,7 @@ start_on-requires c =
 
 pub put_weights-requires : goal.put_weights-requires
 put_weights-requires c =
-    let k = table-accepted _ _ c.read-read.ensures c.in-Accepted.is in
-    (
+    let k = table-accepted _ _ c.read-read.ensures c.in-Accepted.is in (
       record { table = k.counted.counted.table; step = k.counted.counted.held.step; elements = k.counted.counted.held.elements },
       omega (arith, k.counted.counted.held.elements, k.counted.counted.table.bounds.elements_most, c.requires),
     )

@@ -1,5 +1,4 @@
 -- `started_on_input` meets its contract.
-use borrow.Author.Rules.{rules}
 use mathlib.Core.Path.{sym}
 use lib.Seq.{length-take-le}
 use Rattle.table_input.proofs.StartsLaws.{started-input}

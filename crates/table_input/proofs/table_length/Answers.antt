@@ -1,6 +1,5 @@
 -- `table_length` meets its contract.
 use Rattle.table_input.proofs.StartsLaws.{too_long, whole-table, cut-table}
-use borrow.Author.Rules.{rules}
 use Rattle.table_input.proofs.table_length.Goals as goal
 
 pub returns-then-counted : goal.returns-then-counted

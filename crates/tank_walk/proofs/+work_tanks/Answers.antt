@@ -1,8 +1,6 @@
 -- The proof of `work_tanks`, which calls itself. The measure is how many tanks are left.
-use Prim.Native.Nat.{ℕ, ◌-◌, ◌<◌}
 use native.Mathlib.Omega.{arith}
-use borrow.Author.Rules.{rules}
-use Rattle.tank_walk.proofs.TankLaws.{tanks-none, tank-left, one-ready, tanks-passed, tanks-more, next-ready}
+use Rattle.tank_walk.proofs.TankLaws.{tanks-none, tank-left, one-ready, tanks-passed, tanks-more}
 use Rattle.tank_walk.proofs.+work_tanks.Goals as goal
 
 pub returns-then-j-extra : goal.returns-then-j-extra

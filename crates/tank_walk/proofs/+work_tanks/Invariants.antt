@@ -1,6 +1,5 @@
 -- The measure of `work_tanks`, which calls itself.
-use Rattle.std.proofs.Common.{◌≡◌, ◌+◌, ◌*◌, ◌≤◌, length, ℕ, ◌-◌, ◌<◌}
-use Rattle.tank_walk.specs.Tanks.{tank_place, RowCleared, RowMoved, MoveReady, PlaceFits, TankTurnReady, TankTurned, TanksReady, TanksAnswered, TanksOpened}
+use Rattle.std.proofs.Common.{◌-◌}
 use Rattle.tank_walk.proofs.+work_tanks.Given as goal
 
 abbrev pub decreases-work_tanks : goal.decreases-work_tanks

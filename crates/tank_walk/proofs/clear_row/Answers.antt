@@ -1,11 +1,8 @@
 -- `clear_row` meets its contract.
-use Prim.Native.Nat.{◌-◌}
-use borrow.Author.Rules.{rules}
 use native.Mathlib.Omega.{arith}
 use mathlib.Core.Path.{◌≡◌, refl}
 use Rattle.method.specs.Inflow.{no_inflow}
-use Rattle.tank_walk.specs.Tanks.{RowCleared}
-use Rattle.tank_walk.proofs.PutLaws.{RowSoFar, row-begin, row-again}
+use Rattle.tank_walk.proofs.PutLaws.{row-begin, row-again}
 use Rattle.tank_walk.proofs.clear_row.Goals as goal
 
 -- src/lib.rt:73:5

@@ -1,11 +1,7 @@
 -- `move_row` meets its contract.
-use Prim.Native.Nat.{◌+◌, ◌-◌}
-use borrow.Author.Rules.{rules}
 use native.Mathlib.Omega.{arith}
 use mathlib.Core.Path.{◌≡◌, ◌∙◌}
-use Rattle.answer_space.specs.Places.{figures_at}
-use Rattle.tank_walk.specs.Tanks.{RowMoved}
-use Rattle.tank_walk.proofs.PutLaws.{RowSoFar, row-begin, row-again, source_stays}
+use Rattle.tank_walk.proofs.PutLaws.{row-begin, row-again, source_stays}
 use Rattle.tank_walk.proofs.move_row.Goals as goal
 
 -- src/lib.rt:89:5

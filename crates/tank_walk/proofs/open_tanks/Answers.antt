@@ -1,5 +1,4 @@
 -- `open_tanks` meets its contract.
-use borrow.Author.Rules.{rules}
 use Rattle.tank_walk.proofs.TankLaws.{move-ready, moved_ready}
 use Rattle.tank_walk.proofs.open_tanks.Goals as goal
 

@@ -1,5 +1,4 @@
 -- `tank_place` meets its contract.
-use borrow.Author.Rules.{rules}
 use borrow.Author.Tests.{eq-eqb, ne_eqb}
 use native.Mathlib.Omega.{arith}
 use Rattle.tank_walk.specs.Tanks.{tank_place}

@@ -1,6 +1,5 @@
 -- `work_tank` meets its contract.
 use Prim.Native.Nat.{◌+◌}
-use borrow.Author.Rules.{rules}
 use native.Mathlib.Omega.{arith}
 use Rattle.tank_walk.proofs.TankLaws.{here-fits, below-fits, turn-ready, tank-turned}
 use Rattle.tank_walk.proofs.work_tank.Goals as goal

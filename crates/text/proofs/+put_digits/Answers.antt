@@ -1,7 +1,6 @@
 -- The proof of `put_digits`, which calls itself: the measure is the number.
-use Prim.Native.Nat.{ℕ, ◌+◌, ◌%◌, ◌<◌}
+use Prim.Native.Nat.{◌+◌, ◌%◌}
 use native.Mathlib.Omega.{arith}
-use lib.ListN.{length-set}
 use Rattle.text.proofs.DecimalLaws.{decimal-1, decimal-more, length-1, length_more}
 use Rattle.text.proofs.PlacesLaws.{put_one, put_byte, put_same}
 use Rattle.text.proofs.+put_digits.Goals as goal

@@ -1,9 +1,7 @@
 -- `digit_fours` meets its contract.
-use Prim.Native.Nat.{◌≤◌, ◌-◌}
-use mathlib.Core.Path.{◌≡◌, refl}
+use mathlib.Core.Path.{refl}
 use native.Mathlib.Omega.{arith}
-use lib.ListN.{length, take, length-set}
-use Rattle.text.specs.Fours.{fours_below}
+use lib.ListN.{length-set}
 use Rattle.text.proofs.FoursLaws.{no-fours, one-more-four, all-fours}
 use Rattle.text.proofs.digit_fours.Goals as goal
 

@@ -1,11 +1,9 @@
 -- The loop of `digit_fours`.
 -- `digit_fours` meets its contract.
-use Prim.Native.Nat.{◌≤◌, ◌-◌}
-use mathlib.Core.Path.{◌≡◌, refl}
-use native.Mathlib.Omega.{arith}
-use lib.ListN.{length, take, length-set}
+use Prim.Native.Nat.{◌≤◌}
+use mathlib.Core.Path.{◌≡◌}
+use lib.ListN.{length, take}
 use Rattle.text.specs.Fours.{fours_below}
-use Rattle.text.proofs.FoursLaws.{no-fours, one-more-four, all-fours}
 use Rattle.text.proofs.digit_fours.Given as goal
 
 abbrev pub invariant-loop-v : goal.invariant-loop-v

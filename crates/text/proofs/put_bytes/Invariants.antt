@@ -1,11 +1,9 @@
 -- The loop of `put_bytes`.
 -- `put_bytes` meets its contract.
 use Prim.Native.Nat.{◌+◌, ◌≤◌, ◌-◌}
-use mathlib.Core.Path.{◌≡◌, refl}
-use native.Mathlib.Omega.{arith}
-use lib.ListN.{length, take, length-set}
+use mathlib.Core.Path.{◌≡◌}
+use lib.ListN.{length, take}
 use Rattle.text.specs.Places.{Put}
-use Rattle.text.proofs.PlacesLaws.{put-nothing, put-more, put_all, put-ends}
 use Rattle.text.proofs.put_bytes.Given as goal
 
 abbrev pub invariant-loop-i : goal.invariant-loop-i

@@ -1,5 +1,4 @@
 -- `put_four` meets its contract.
-use borrow.Author.Rules.{rules}
 use Rattle.text.proofs.DecimalLaws.{word-4}
 use Rattle.text.proofs.FoursLaws.{word_at}
 use Rattle.text.proofs.PlacesLaws.{put_same}

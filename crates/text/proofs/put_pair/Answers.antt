@@ -1,8 +1,7 @@
 -- `put_pair` meets its contract.
-use borrow.Author.Rules.{rules}
 use native.Mathlib.Omega.{arith}
 use lib.ListN.{length-set}
-use Rattle.text.proofs.DecimalLaws.{word-2, pair-byte}
+use Rattle.text.proofs.DecimalLaws.{word-2}
 use Rattle.text.proofs.FoursLaws.{word_at}
 use Rattle.text.proofs.PlacesLaws.{put_two, put_same}
 use Rattle.text.proofs.put_pair.Goals as goal

@@ -1,5 +1,4 @@
 -- `put_three` meets its contract.
-use borrow.Author.Rules.{rules}
 use native.Mathlib.Omega.{arith}
 use Rattle.text.proofs.DecimalLaws.{word-3}
 use Rattle.text.proofs.FoursLaws.{word_at}

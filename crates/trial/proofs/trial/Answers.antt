@@ -1,5 +1,4 @@
 -- `trial` meets its contract.
-use borrow.Author.Rules.{rules}
 use Rattle.table.proofs.HeldLaws.{table-accepted}
 use Rattle.network.proofs.LentLaws.{lent-table, lent-table-refused}
 use Rattle.entries.specs.Trials.{trial_answer}

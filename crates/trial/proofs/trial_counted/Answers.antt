@@ -1,7 +1,5 @@
 -- `trial_counted` meets its contract.
-use borrow.Author.Rules.{rules}
 use mathlib.Core.Path.{sym, ◌∙◌}
-use borrow.Author.Tests.{not-true, not-false}
 use native.Mathlib.Omega.{arith}
 use Rattle.table.specs.KindCounts.{extra_count}
 use Rattle.table.specs.InUse.{table_in}

@@ -1,5 +1,4 @@
 -- `Figures::new` meets its contract: the four numbers are judged in the order of the definition.
-use borrow.Author.Rules.{rules}
 use mathlib.Core.Path.{ap, sym, ◌∙◌}
 use Rattle.refusal.specs.Answers.{accepted}
 use Rattle.units.proofs.CeilingLaws.{passes, stays, none_left}

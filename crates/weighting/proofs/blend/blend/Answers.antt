@@ -1,5 +1,4 @@
 -- `blend` meets its contract.
-use borrow.Author.Rules.{rules}
 use Rattle.weighting.proofs.BlendLaws.{blended-of}
 use Rattle.weighting.proofs.blend.blend.Goals as goal
 

@@ -1,5 +1,4 @@
 -- `gap` meets its contract.
-use borrow.Author.Rules.{rules}
 use native.Mathlib.Omega.{arith}
 use Rattle.weighting.specs.Blend.{gap_of}
 use Rattle.weighting.proofs.blend.gap.Goals as goal

@@ -1,10 +1,8 @@
 -- `weighted_mean` meets its contract: its products stay below 2^64, and the mean under the ceiling.
-use borrow.Author.Rules.{rules}
 use mathlib.Core.Path.{refl}
-use native.Mathlib.Omega.{arith}
 use Rattle.units.specs.Units.{C}
 use Rattle.weighting.specs.Blend.{weighted_mean}
-use Rattle.weighting.proofs.BlendLaws.{product_le, rest_le, mean-le}
+use Rattle.weighting.proofs.BlendLaws.{mean-le}
 use Rattle.weighting.proofs.blend.weighted_mean.Goals as goal
 
 pub returns : goal.returns

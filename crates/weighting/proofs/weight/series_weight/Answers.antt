@@ -1,12 +1,11 @@
 -- `series_weight` meets its contract: at each turn the turns that are left bring h to the weight.
 use Prim.Native.Nat.{◌≤◌, ◌*◌}
-use borrow.Author.Rules.{rules}
 use mathlib.Core.Path.{◌≡◌, refl, sym, ◌∙◌}
 use native.Mathlib.Nat.{mul-le-mul}
 use native.Mathlib.Omega.{arith}
 use Rattle.units.specs.Units.{S}
 use Rattle.weighting.specs.Weight.{turned, weight}
-use Rattle.weighting.proofs.WeightLaws.{shares, share_of, share-most, near-low, near-high, turned-again, taken-le}
+use Rattle.weighting.proofs.WeightLaws.{shares, share_of, share-most, near-low, near-high, turned-again}
 use Rattle.weighting.proofs.weight.series_weight.Goals as goal
 
 -- the products that a turn makes

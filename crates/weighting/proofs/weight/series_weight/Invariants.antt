@@ -1,13 +1,9 @@
 -- The loop of `series_weight`.
 -- `series_weight` meets its contract: at each turn the turns that are left bring h to the weight.
-use Prim.Native.Nat.{◌≤◌, ◌*◌}
-use borrow.Author.Rules.{rules}
-use mathlib.Core.Path.{◌≡◌, refl, sym, ◌∙◌}
-use native.Mathlib.Nat.{mul-le-mul}
-use native.Mathlib.Omega.{arith}
+use Prim.Native.Nat.{◌≤◌}
+use mathlib.Core.Path.{◌≡◌}
 use Rattle.units.specs.Units.{S}
 use Rattle.weighting.specs.Weight.{turned, weight}
-use Rattle.weighting.proofs.WeightLaws.{shares, share_of, share-most, near-low, near-high, turned-again, taken-le}
 use Rattle.weighting.proofs.weight.series_weight.Given as goal
 
 abbrev pub invariant-loop-m : goal.invariant-loop-m
