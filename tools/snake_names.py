@@ -12,7 +12,7 @@ import re
 LAWS = {"none_left": "none_left_lem"}
 LAW_FILES = ("crates/progress/proofs/TestLaws.antt", "crates/progress/proofs/has_ended/Proof.antt", "crates/program_run/proofs/ToPrintLaws.antt")
 WORD = re.compile(r"(?<![\w'])[A-Za-z_][\w'*-]*")
-CAMEL = re.compile(r"(?<=[a-z0-9])([A-Z])")
+CAMEL = re.compile(r"(?<=[A-Za-z0-9])([A-Z])")
 
 
 def snake(word):

@@ -21,6 +21,7 @@ pub enum JudgedElement {
 }
 
 // The lag of an element that stores water.
+#[tactic(auto, unfolding(elements::specs::Rules::lag_fits))]
 fn lag_fits(step: u64, e: Element) -> bool
     ensures { result ≡ lag_fits step e }
 {

@@ -60,6 +60,7 @@ pub fn has_ended(judged: bool, left: u64) -> bool
 }
 
 // Whether so many bytes of text go out now.
+#[tactic(auto, unfolding(program_run::specs::Machine::goes_out))]
 pub fn text_due(ended: bool, wants: bool, at: usize) -> bool
     ensures { result ≡ goes_out ended wants at }
 {

@@ -9,6 +9,7 @@ use Rattle.state.specs.States.{State}
 use Rattle.network_leads.specs.Worked.{space_size}
 use Rattle.leads.specs.Held.{ForecastGiven, CopyReady}
 use Rattle.leads.proofs.AnswerLaws.{given, elements-few, answer-size, space-size, too_small, lent_by}
+use Rattle.sizes.specs.Sizes.{medium_forecast_space}
 use Rattle.leads.proofs.forecast_on.Goals as goal
 
 module _ {bytes : List ℕ} {n L T : ℕ} {s : State} (g : ForecastGiven bytes n L T s) where
@@ -70,14 +71,9 @@ pub in_medium-requires : goal.in_medium-requires
 in_medium-requires c =
     let g = given c.requires.0 c.requires.1 in
     let r = c.space_numbers-room.ensures.0 in
-    let l = c.if-room-le-MEDIUM_FORECAST_SPACE.true in
+    let l : c.space_numbers-room.result ≤ medium_forecast_space = omega arith in
     ready g c.requires.0.extra r _ _ c.answer_numbers-needed.ensures.0 c.if-out-needed.false l
     (omega (arith, few g c.requires.0.extra r l))
-
-pub returns-then-room-le-MEDIUM_FORECAST_SPACE : goal.returns-then-room-le-MEDIUM_FORECAST_SPACE
-returns-then-room-le-MEDIUM_FORECAST_SPACE c =
-    lent_by _ _ c.in_medium.result c.in_medium.ensures
-    (answer-size (given c.requires.0 c.requires.1) c.answer_numbers-needed.ensures.0) c.counted_by-then-room-le-MEDIUM_FORECAST_SPACE.ensures
 
 pub in_large-requires : goal.in_large-requires
 in_large-requires c =
