@@ -1,4 +1,5 @@
 -- `judge_kind` meets its contract.
+use borrow.Author.Rules.{rules}
 use mathlib.Core.Bool.{true, false}
 use Rattle.fields.proofs.RangeLaws.{kept, broken}
 use Rattle.element_rules.proofs.JudgedLaws.{basin-judged, reach-judged, dam-judged, rest-judged}
@@ -28,13 +29,11 @@ returns-then-not-basin_fits c =
 
 pub returns-then-not-tanks_fit : goal.returns-then-not-tanks_fit
 returns-then-not-tanks_fit c =
-    let r = c.in_default.in_default-own.rest in
-    rest-judged _ _ r.1 r.0.0.1 r.0.1 {fits = false} (rw (broken c.tanks_fit.ensures c.if-not-tanks_fit.true))
+    rest-judged _ _ (search rules) (search rules) (search rules) {fits = false} (rw (broken c.tanks_fit.ensures c.if-not-tanks_fit.true))
 
 pub returns-then-not-lag_fits-3 : goal.returns-then-not-lag_fits-3
 returns-then-not-lag_fits-3 c =
-    let r = c.in_default.in_default-own.rest in
-    rest-judged _ _ r.1 r.0.0.1 r.0.1 {fits = false}
+    rest-judged _ _ (search rules) (search rules) (search rules) {fits = false}
     (rw (kept c.tanks_fit.ensures c.if-not-tanks_fit.false, broken c.lag_fits-in_default.ensures c.if-not-lag_fits-3.true))
 
 pub returns-else-not-reach_fits : goal.returns-else-not-reach_fits
@@ -53,6 +52,5 @@ returns-else-not-basin_fits c =
 
 pub returns-else-not-lag_fits-3 : goal.returns-else-not-lag_fits-3
 returns-else-not-lag_fits-3 c =
-    let r = c.in_default.in_default-own.rest in
-    rest-judged _ _ r.1 r.0.0.1 r.0.1 {fits = true}
+    rest-judged _ _ (search rules) (search rules) (search rules) {fits = true}
     (rw (kept c.tanks_fit.ensures c.if-not-tanks_fit.false, kept c.lag_fits-in_default.ensures c.if-not-lag_fits-3.false))

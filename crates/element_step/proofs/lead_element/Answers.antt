@@ -1,4 +1,5 @@
 -- `lead_element` meets its contract.
+use borrow.Author.Rules.{rules}
 use mathlib.Core.Path.{refl, ◌∙◌}
 use Rattle.elements.proofs.KindLaws.{no_other}
 use Rattle.element_step.proofs.StepLaws.{move-alone, basin-answered, reach-answered}
@@ -21,4 +22,4 @@ returns-in-3 c = absurd (c.requires.1.1 c.in-3.is)
 
 pub returns-in_default : goal.returns-in_default
 returns-in_default c =
-    absurd (no_other c.requires.0.move.element.kind c.in_default.in_default-own.rest.0.0.1 c.in_default.in_default-own.rest.0.1 c.in_default.in_default-own.rest.1)
+    absurd (no_other c.requires.0.move.element.kind (search rules) (search rules) (search rules))

@@ -1,4 +1,5 @@
 -- `step_element` meets its contract.
+use borrow.Author.Rules.{rules}
 use mathlib.Core.Path.{sym, ◌∙◌}
 use Rattle.method.specs.Figures.{AnsweredFiguresFit}
 use Rattle.method.proofs.FiguresLaws.{accepted-fits}
@@ -45,4 +46,4 @@ returns-in-3 c =
 
 pub returns-in_default : goal.returns-in_default
 returns-in_default c =
-    absurd (no_other c.requires.0.move.element.kind c.in_default.in_default-own.rest.0.0.1 c.in_default.in_default-own.rest.0.1 c.in_default.in_default-own.rest.1)
+    absurd (no_other c.requires.0.move.element.kind (search rules) (search rules) (search rules))

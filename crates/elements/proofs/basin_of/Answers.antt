@@ -23,4 +23,4 @@ returns-in-4 c = (sym (by-tanks _ _ _ _ _ c.in-4.is), search rules)
 
 pub returns-in_default : goal.returns-in_default
 unfolding basin_of
-returns-in_default c = let r = c.in_default.in_default-own.rest in (sym (by-none _ _ _ _ _ r.0.0.0.1 r.0.0.1 r.0.1), search rules)
+returns-in_default c = (sym (by-none _ _ _ _ _ (search rules) (search rules) (search rules)), search rules)

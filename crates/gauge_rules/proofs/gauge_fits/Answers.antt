@@ -37,7 +37,7 @@ number-3 : (w : goal.Then-kind-eq-DAM) → w.wide-element.result ≡ (gauge-3 w)
 unfolding gauge_at gauge_from
 number-3 w = rw (← w.place_of-at.ensures) w.wide-element.ensures.0
 
--- the place is the gauge's, and all its bytes are there-2
+-- the place is the gauge's, and all its bytes are there
 there-2 : (p : goal.Else-kind-eq-DAM) → GaugeThere p.args.table.now p.place_of-at.result
 there-2 p = rw p.place_of-at.ensures (gauge-there _ _ _ p.requires.placed)
 
@@ -53,7 +53,7 @@ noise : (c : goal.Then-not-in_range) → c.in_range.result ≡ in_range (gauge-4
 unfolding gauge_at gauge_from
 noise c = rw (← c.place_of-at.ensures, ← c.whole32.ensures.0) c.in_range.ensures
 
--- the place is the gauge's, and all its bytes are there-3
+-- the place is the gauge's, and all its bytes are there
 there-3 : (p : goal.Else-not-in_range) → GaugeThere p.args.table.now p.place_of-at.result
 there-3 p = rw p.place_of-at.ensures (gauge-there _ _ _ p.requires.placed)
 
@@ -74,7 +74,7 @@ curve : (c : goal.Then-not-curve_fits) → c.curve_fits.result ≡ curve_fits (g
 unfolding gauge_at gauge_from
 curve c = rw (← c.place_of-at.ensures) c.curve_fits.ensures
 
--- the place is the gauge's, and all its bytes are there-4
+-- the place is the gauge's, and all its bytes are there
 there-4 : (p : goal.Else-not-curve_fits) → GaugeThere p.args.table.now p.place_of-at.result
 there-4 p = rw p.place_of-at.ensures (gauge-there _ _ _ p.requires.placed)
 
@@ -90,7 +90,7 @@ noise-3 : (c : goal.After-beta_at) → c.in_range.result ≡ in_range (gauge-6 c
 unfolding gauge_at gauge_from
 noise-3 c = rw (← c.place_of-at.ensures, ← c.whole32.ensures.0) c.in_range.ensures
 
--- so are its curve-2 and β
+-- so are its curve and β
 curve-2 : (c : goal.After-beta_at) → c.curve_fits.result ≡ curve_fits (gauge-6 c).curve
 unfolding gauge_at gauge_from
 curve-2 c = rw (← c.place_of-at.ensures) c.curve_fits.ensures

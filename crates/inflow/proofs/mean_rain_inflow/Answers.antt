@@ -26,6 +26,5 @@ returns-in-2 c = rw c.in-2.is
 pub returns-in_default : goal.returns-in_default
 unfolding mean_rain_inflow
 returns-in_default c =
-    let r = c.in_default.in_default-own.rest in
-    let three : c.args.count ≡ 3 = omega (arith, r.0.0.1, r.0.1, r.1, c.requires.1.0) in
+    let three : c.args.count ≡ 3 = omega (arith, c.requires.1.0) in
     rw three

@@ -28,7 +28,7 @@ module _ (k : goal.After-copy_numbers-arg-2-1) where
 abbrev river-2 : goal.After-slice_known-6-1 → TableValues
 river-2 k = table_in k.args.table.now
 
--- the space that was worked-2 in, and the numbers of the answer
+-- the space that was worked in, and the numbers of the answer
 abbrev worked-2 : goal.After-slice_known-6-1 → List ℕ
 worked-2 k = k.work_leads.new.space
 

@@ -202,7 +202,7 @@ module _ (c : goal.In_default) where
   unfolding step_input input_of
   lead_zero-2 = ap (λ (x : StepInput). x.input.first_lead) c.step_input-taken.ensures
 
--- it is ready-2 to be out, from its old figures on
+-- it is ready to be out, from its old figures on
 ready-2 :
     (c : goal.In_default)
     → LeadReady most_sum_before c.step_input-taken.result.input (step_lead (c.loop-i.i + 1) c.step_input-taken.result.input.element.down)
@@ -268,7 +268,7 @@ module _ (c : goal.After-passed-in-loop-i-1) where
   passed_on-3 =
       passed-more _ _ (counted-11 c) (kind-read _ _ (used-11 c) refl) (ap (λ (x : StepInput). x.passed) c.step_input-taken.ensures)
 
--- it is ready-3 to be out, from its old figures on
+-- it is ready to be out, from its old figures on
 ready-3 :
     (c : goal.After-passed-in-loop-i-1)
     → LeadReady most_sum_before c.step_input-taken.result.input (step_lead (c.loop-i.i + 1) c.step_input-taken.result.input.element.down)

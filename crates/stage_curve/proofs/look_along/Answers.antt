@@ -111,7 +111,7 @@ module _ (c : goal.After-with_noise) where
   unfolding piece_of
   here-5 = piece-stands _ _ _ few-5
 
--- so is its top-2
+-- so is its top
 top-2 :
     (c : goal.After-with_noise)
     → c.whole16.result ≡ (get_or (curve_at c.args.table.now c.args.at).pieces c.loop-answer.pieces no_piece).top.0
@@ -144,7 +144,7 @@ module _ (c : goal.Else-stage-whole16) where
   unfolding piece_of
   here-6 = piece-stands _ _ _ few-6
 
--- so is its top-3
+-- so is its top
 top-3 :
     (c : goal.Else-stage-whole16)
     → c.whole16.result ≡ (get_or (curve_at c.args.table.now c.args.at).pieces c.loop-answer.pieces no_piece).top.0

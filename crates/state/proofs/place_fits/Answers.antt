@@ -1,4 +1,5 @@
 -- `place_fits` meets its contract.
+use borrow.Author.Rules.{rules}
 use mathlib.Core.Bool.{true}
 use mathlib.Core.Path.{◌≡◌, sym, ap, ◌∙◌}
 use native.Mathlib.Omega.{arith}
@@ -13,23 +14,23 @@ figures :
     → c.figures_fit.result ≡ figures_fit (figures_of c.args.state.now c.args.i)
 figures c = c.figures_fit.ensures ∙ ap figures_fit c.figures_of.ensures
 
--- the test of the figures-2 that were read
+-- the test of the figures that were read
 figures-2 :
     (c : goal.After-rains_fit)
     → c.figures_fit.result ≡ figures_fit (figures_of c.args.state.now c.args.i)
 figures-2 c = c.figures_fit.ensures ∙ ap figures_fit c.figures_of.ensures
 
--- the figures-2 that were found to fit
+-- the figures that were found to fit
 fitting : (c : goal.After-rains_fit) → figures_fit (figures_of c.args.state.now c.args.i) ≡ true
 fitting c = sym (figures-2 c) ∙ c.if-not-figures_fit.false
 
--- the test of the figures-3 that were read
+-- the test of the figures that were read
 figures-3 :
     (c : goal.In-2)
     → c.figures_fit.result ≡ figures_fit (figures_of c.args.state.now c.args.i)
 figures-3 c = c.figures_fit.ensures ∙ ap figures_fit c.figures_of.ensures
 
--- the figures-3 that were found to fit
+-- the figures that were found to fit
 fitting-2 : (c : goal.In-2) → figures_fit (figures_of c.args.state.now c.args.i) ≡ true
 fitting-2 c = sym (figures-3 c) ∙ c.if-not-figures_fit.false
 
@@ -51,8 +52,8 @@ returns-in-2 c =
 
 pub returns-in_default : goal.returns-in_default
 unfolding place_of
-returns-in_default c = sym (none-place _ _ c.in_default.in_default-own.rest.1 (λ e. omega (arith, e)) (λ e. omega (arith, e)) (λ e. omega (arith, e)))
+returns-in_default c = sym (none-place _ _ (search rules) (λ e. omega (arith, e)) (λ e. omega (arith, e)) (λ e. omega (arith, e)))
 
 pub returns-in_default-2 : goal.returns-in_default-2
 unfolding place_of
-returns-in_default-2 c = sym (none-place _ _ c.in_default.in_default-own.rest.1 (λ e. omega (arith, e)) (λ e. omega (arith, e)) (λ e. omega (arith, e)))
+returns-in_default-2 c = sym (none-place _ _ (search rules) (λ e. omega (arith, e)) (λ e. omega (arith, e)) (λ e. omega (arith, e)))
