@@ -5,7 +5,7 @@ ghost use Rattle.std.specs.Prelude.{◌≡◌};
 ghost use Rattle.refusal.specs.Refusals.{number};
 
 // Document 01, Numbers for no, and document 02: one refusal for each number, in checking order.
-#[derive(Clone, Copy)]
+#[derive(Clone, Copy, Debug, PartialEq, Eq)]
 pub enum Refusal {
     TableLength,
     TableVersion,
@@ -53,11 +53,4 @@ impl Refusal {
             Refusal::AboveCeiling => 16,
         }
     }
-}
-
-// Whether a call's input is accepted.
-#[derive(Clone, Copy)]
-pub enum Verdict {
-    Accepted,
-    Refused(Refusal),
 }

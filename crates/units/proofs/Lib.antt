@@ -1,3 +1,2 @@
 pub mod CeilingLaws
-pub mod AnswerLaws
 pub mod UnderLaws

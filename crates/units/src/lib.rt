@@ -4,7 +4,7 @@
 ghost use Rattle.std.specs.Prelude.{◌≡◌, [], ◌∷◌};
 ghost use Rattle.units.specs.Units.{grains, thousandths};
 ghost use Rattle.units.specs.Ceiling.{under_ceiling};
-ghost use Rattle.units.specs.Answers.{discharge_answer, variance_answer};
+ghost use Rattle.refusal.specs.Answers.{answer_of};
 
 use refusal::Refusal;
 
@@ -22,29 +22,17 @@ pub struct Variance(pub u64);
 #[derive(Clone, Copy)]
 pub struct Stage(pub u64);
 
-#[derive(Clone, Copy)]
-pub enum DischargeAnswer {
-    Accepted(Discharge),
-    Refused(Refusal),
-}
-
-#[derive(Clone, Copy)]
-pub enum VarianceAnswer {
-    Accepted(Variance),
-    Refused(Refusal),
-}
-
 impl Discharge {
     pub const CEILING: u64 = 4_000_000_000;
 
     // The discharge of so many grains, or the refusal of one that passes the ceiling.
-    pub fn new(count: u64) -> DischargeAnswer
-        ensures { discharge_answer result ≡ under_ceiling (count ∷ []) (grains count) }
+    pub fn new(count: u64) -> Result<Self, Refusal>
+        ensures { answer_of result ≡ under_ceiling (count ∷ []) (grains count) }
     {
         if Self::CEILING < count {
-            return DischargeAnswer::Refused(Refusal::AboveCeiling);
+            return Err(Refusal::AboveCeiling);
         }
-        DischargeAnswer::Accepted(Discharge(count))
+        Ok(Discharge(count))
     }
 }
 
@@ -52,12 +40,12 @@ impl Variance {
     pub const CEILING: u64 = 4_000_000_000;
 
     // The variance of so many thousandths, or the refusal of one that passes the ceiling.
-    pub fn new(count: u64) -> VarianceAnswer
-        ensures { variance_answer result ≡ under_ceiling (count ∷ []) (thousandths count) }
+    pub fn new(count: u64) -> Result<Self, Refusal>
+        ensures { answer_of result ≡ under_ceiling (count ∷ []) (thousandths count) }
     {
         if Self::CEILING < count {
-            return VarianceAnswer::Refused(Refusal::AboveCeiling);
+            return Err(Refusal::AboveCeiling);
         }
-        VarianceAnswer::Accepted(Variance(count))
+        Ok(Variance(count))
     }
 }
