@@ -1,4 +1,5 @@
 -- Readings come in at elements; the limit is worked out by cells. A cell is read where its element is.
+use Rattle.std.specs.Prelude.{None}
 use Prim.Native.Nat.{ℕ, zero, suc, ◌+◌, ◌≤◌, ◌<◌}
 use mathlib.Core.Bool.{Bool, true, false, ◌||◌}
 use mathlib.Core.List.{List}
@@ -10,7 +11,6 @@ use native.Mathlib.Omega.{arith}
 use lib.Dec.{eqb}
 use Rattle.table.specs.Tables.{TableValues}
 use Rattle.table.specs.Bounds.{AcceptedBounds}
-use Rattle.record.specs.declared.Observation.TheVariants.{Nothing}
 use Rattle.record.specs.Records.{Input, input_at}
 use Rattle.record.proofs.CellInputs.{last-input, inner-input}
 use Rattle.cells.specs.Cells.{last_cell, element_of, cells}
@@ -41,7 +41,7 @@ cell-readings-stay t has_reading has_reading' stays (suc c) h = stays (element_o
 module _ (t : TableValues) (b : AcceptedBounds t) where
   -- where none has come in, a record brings no observation
   module _ (bytes : List ℕ) (has_reading : ℕ → Bool) where
-    unread : (c : ℕ) → Cell t c → has_reading_after t bytes has_reading (element_of t c + 1) ≡ false → observed_in (input_at (cells t) bytes) c ≡ Nothing
+    unread : (c : ℕ) → Cell t c → has_reading_after t bytes has_reading (element_of t c + 1) ≡ false → observed_in (input_at (cells t) bytes) c ≡ None
     unfolding observed_in
     unread c (last i l e) h =
         let of : element_of t c ≡ i = ap (element_of t) e ∙ element-of t (last-in t l) in
@@ -53,7 +53,7 @@ module _ (t : TableValues) (b : AcceptedBounds t) where
         (c : ℕ)
         → c < (cells t).elements
         → at_its_element t (has_reading_after t bytes has_reading) (c + 1) ≡ false
-        → observed_in (input_at (cells t) bytes) c ≡ Nothing
+        → observed_in (input_at (cells t) bytes) c ≡ None
     unfolding at_its_element cells
     cell-not-observed c l h =
         unread c (cell-of t c l) (subst (λ (k : ℕ). at_its_element t (has_reading_after t bytes has_reading) k ≡ false) (add-one c) h)

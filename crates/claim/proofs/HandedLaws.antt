@@ -1,4 +1,5 @@
 -- What an accepted call hands out is within its margins and under the limit.
+use Rattle.std.specs.Prelude.{None}
 use Prim.Native.Nat.{ℕ, zero, suc, ◌+◌, ◌≤◌, ◌<◌, ◌-◌}
 use mathlib.Core.Bool.{Bool}
 use mathlib.Core.Path.{◌≡◌, refl, ap}
@@ -10,7 +11,6 @@ use Rattle.exact.specs.Exact.{ExactFigures}
 use Rattle.exact.specs.Margins.{Follows}
 use Rattle.table.specs.Tables.{TableValues}
 use Rattle.table.specs.Bounds.{AcceptedBounds}
-use Rattle.record.specs.declared.Observation.TheVariants.{Nothing}
 use Rattle.cells.specs.Cells.{last_cell, cells}
 use Rattle.cells.proofs.CellLaws.{last-place, last-in-use}
 use Rattle.cells.proofs.BoundsLaws.{cells-bounds}
@@ -76,7 +76,7 @@ module _ (t : TableValues) (b : AcceptedBounds t) (s : State) (x : ExactState) (
         (λ _. omega arith) (λ _ _ _. omega arith)
 
     -- "leads 1 to L are steps without readings"
-    none : (i : ℕ) → no_observation i ≡ Nothing
+    none : (i : ℕ) → no_observation i ≡ None
     unfolding no_observation
     none i = refl
 

@@ -1,11 +1,10 @@
 -- Document 01, The run in fractions: what the cabinet answers to a list of calls, by the definitions of the entries' contracts.
-use Rattle.std.specs.Prelude.{ℕ, zero, suc, Bool, true, false, ◌||◌, List, [], ◌∷◌}
+use Rattle.units.specs.declared.Stage.{Stage}
+use Rattle.std.specs.Prelude.{ℕ, zero, suc, Bool, true, false, ◌||◌, List, [], ◌∷◌, Option, Some, None}
 use Rattle.refusal.specs.Answers.{Answer, accepted, refused}
 use Rattle.method.specs.declared.Figures.{Figures}
 use Rattle.table.specs.Tables.{TableValues}
 use Rattle.table.specs.InUse.{table_in}
-use Rattle.record.specs.declared.Reading.{Reading}
-use Rattle.record.specs.declared.Reading.TheVariants.{At, Gap}
 use Rattle.record.specs.Records.{reading_at, at_element}
 use Rattle.state.specs.States.{State, steps_of, figures_of}
 use Rattle.state.specs.Answers.{state_after}
@@ -14,15 +13,15 @@ use Rattle.entries.specs.Entries.{step_answer, forecast_answer}
 use Rattle.claim.specs.Calls.{Call, step, forecast, Place, state_places, forecast_places, paired}
 
 -- "anything but a gap"
-unfoldable pub is_reading : Reading → Bool
-is_reading Gap = false
-is_reading (At h) = true
+unfoldable pub is_reading : Option Stage → Bool
+is_reading None = false
+is_reading (Some h) = true
 
 -- "A reading has come in at an element where an accepted step since the start gave its gauge anything but a gap.": of each
 -- element number, before a step and after it
 unfoldable pub has_reading_after : TableValues → List ℕ → (ℕ → Bool) → ℕ → Bool
 has_reading_after t bytes has_reading zero = false
-has_reading_after t bytes has_reading (suc i) = has_reading (suc i) || is_reading (at_element t Gap (reading_at t bytes) i t.gauges)
+has_reading_after t bytes has_reading (suc i) = has_reading (suc i) || is_reading (at_element t None (reading_at t bytes) i t.gauges)
 
 unfoldable pub is_refused : {A : Type 0} → Answer A → Bool
 is_refused (accepted a) = false

@@ -2,13 +2,15 @@
 #![tactic(auto)]
 
 ghost use Rattle.std.specs.Prelude.{◌≡◌, ◌≤◌};
+ghost use Rattle.refusal.specs.Answers.{answer_of};
 ghost use Rattle.units.specs.Units.{C};
 ghost use Rattle.weighting.specs.Estimates.{EstimateFits};
-ghost use Rattle.method.specs.Figures.{figures_answer, FiguresFit, AnsweredFiguresFit};
+ghost use Rattle.method.specs.Figures.{FiguresFit, AnsweredFiguresFit};
 ghost use Rattle.method.specs.Correction.{corrected_variance, correction_answer};
 
+use refusal::Refusal;
 use gain::{gain_margin_of, gain_of};
-use method::{Figures, FiguresAnswer};
+use method::Figures;
 use units::{Discharge, Variance};
 use weighting::blend::blend;
 use weighting::{Estimate, SCALE};
@@ -26,9 +28,9 @@ fn variance_left(noise: u64, variance: Estimate) -> Estimate
 }
 
 // The correction of one element by the rated discharge z of a reading.
-pub fn correct(noise: Variance, z: Discharge, x: Figures) -> FiguresAnswer
+pub fn correct(noise: Variance, z: Discharge, x: Figures) -> Result<Figures, Refusal>
     requires { (1 ≤ noise.0) × ((noise.0 ≤ C) × ((z.0 ≤ C) × FiguresFit x)) }
-    ensures { (figures_answer result ≡ correction_answer noise.0 z.0 x) × AnsweredFiguresFit result }
+    ensures { (answer_of result ≡ correction_answer noise.0 z.0 x) × AnsweredFiguresFit result }
 {
     let old = x.variance_estimate();
     let reading = Estimate {

@@ -1,14 +1,13 @@
 -- Document 02, M-104: "For the display each forecast figure becomes a record of discharge and margin as floats, the grain count turned into a
 -- float exactly and divided once by 1,000,000."
-use Rattle.std.specs.Prelude.{ℕ, [], ◌∷◌, Float, pos}
+use Rattle.refusal.specs.declared.Refusal.{Refusal}
+use Rattle.std.specs.Prelude.{ℕ, [], ◌∷◌, Float, pos, Result, Ok, Err}
 use Rattle.std.specs.Float.{binary64}
 use Rattle.std.specs.Float.Ieee.{div, of_int}
 use Rattle.refusal.specs.Refusals.{number}
-use Rattle.refusal.specs.Answers.{Answer, accepted, refused}
+use Rattle.refusal.specs.Answers.{Answer, accepted, refused, answer_of}
 use Rattle.units.specs.Ceiling.{under_ceiling}
 use Rattle.display.specs.declared.Shown.{Shown}
-use Rattle.display.specs.declared.ShownAnswer.{ShownAnswer}
-use Rattle.display.specs.declared.ShownAnswer.TheVariants.{Accepted, Refused}
 
 -- a count of grains in m³/s: one division of two floats, rounded once by IEEE 754's rule (lib.Ieee); proofs/DisplayLaws.antt shows that
 -- the two floats are the count and 1,000,000 exactly, so that the answer is the float nearest to their quotient
@@ -22,7 +21,3 @@ shown discharge margin = record { discharge = cubic_metres discharge; margin = c
 unfoldable pub show_answer : ℕ → ℕ → Answer Shown
 show_answer discharge margin = under_ceiling (discharge ∷ (margin ∷ [])) (shown discharge margin)
 
--- the number and the value of each case of the code's answer
-abbrev pub shown_answer : ShownAnswer → Answer Shown
-shown_answer (Accepted s) = accepted s
-shown_answer (Refused r) = refused (number r)

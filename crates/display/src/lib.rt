@@ -2,23 +2,18 @@
 #![tactic(auto)]
 
 ghost use Rattle.std.specs.Prelude.{◌≡◌, ◌≤◌};
+ghost use Rattle.refusal.specs.Answers.{answer_of};
 ghost use Rattle.units.specs.Units.{C};
-ghost use Rattle.display.specs.Display.{cubic_metres, shown_answer, show_answer};
+ghost use Rattle.display.specs.Display.{cubic_metres, show_answer};
 
 use refusal::Refusal;
-use units::{Discharge, DischargeAnswer};
+use units::Discharge;
 
 // A discharge and its margin in m³/s.
 #[derive(Clone, Copy)]
 pub struct Shown {
     pub discharge: f64,
     pub margin: f64,
-}
-
-#[derive(Clone, Copy)]
-pub enum ShownAnswer {
-    Accepted(Shown),
-    Refused(Refusal),
 }
 
 // Grains as m³/s: the count as a float, exactly, divided once.
@@ -30,16 +25,12 @@ fn cubic_metres(grains: Discharge) -> f64
 }
 
 // A discharge and its margin for the display; a count that passes the ceiling is refused.
-pub fn show(discharge: u64, margin: u64) -> ShownAnswer
-    ensures { shown_answer result ≡ show_answer discharge margin }
+pub fn show(discharge: u64, margin: u64) -> Result<Shown, Refusal>
+    ensures { answer_of result ≡ show_answer discharge margin }
 {
-    let DischargeAnswer::Accepted(q) = Discharge::new(discharge) else {
-        return ShownAnswer::Refused(Refusal::AboveCeiling);
-    };
-    let DischargeAnswer::Accepted(e) = Discharge::new(margin) else {
-        return ShownAnswer::Refused(Refusal::AboveCeiling);
-    };
+    let q = Discharge::new(discharge)?;
+    let e = Discharge::new(margin)?;
     let discharge = cubic_metres(q);
     let margin = cubic_metres(e);
-    ShownAnswer::Accepted(Shown { discharge, margin })
+    Ok(Shown { discharge, margin })
 }

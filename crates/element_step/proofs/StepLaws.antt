@@ -1,18 +1,18 @@
 -- Laws of the step of one element: rule 16 on its inflow, its move and its correction, one after the other; each kind.
+use Rattle.rating.specs.declared.RatedReading.{RatedReading}
+use Rattle.std.specs.Prelude.{Result, Ok, Err, Option, None}
 use Prim.Native.Nat.{ℕ, ◌≤◌}
 use mathlib.Core.List.{append_assoc, append-nil}
 use mathlib.Core.Path.{◌≡◌, sym, ap, ◌∙◌}
 use native.Mathlib.Omega.{arith}
-use Rattle.refusal.specs.Answers.{Answer, accepted, refused}
+use Rattle.refusal.specs.Answers.{Answer, accepted, refused, answer_of}
 use Rattle.refusal.specs.declared.Refusal.{Refusal}
 use Rattle.units.specs.Units.{C}
 use Rattle.units.proofs.CeilingLaws.{same-accepted, refused-append, accepted-append}
 use Rattle.units.proofs.UnderLaws.{under-accepted}
 use Rattle.weighting.specs.declared.Estimate.{Estimate}
 use Rattle.method.specs.declared.Figures.{Figures}
-use Rattle.method.specs.declared.FiguresAnswer.{FiguresAnswer}
-use Rattle.method.specs.declared.FiguresAnswer.TheVariants.{Accepted, Refused}
-use Rattle.method.specs.Figures.{variance, figure_numbers, figures_answer, FiguresFit}
+use Rattle.method.specs.Figures.{variance, figure_numbers, FiguresFit}
 use Rattle.method.specs.Inflow.{reach_inflow, inflow_answer}
 use Rattle.method.specs.Routing.{routed_discharge, routing_answer}
 use Rattle.method.proofs.FiguresLaws.{figures-under}
@@ -22,8 +22,6 @@ use Rattle.inflow.specs.Basin.{basin_inflow}
 use Rattle.elements.specs.declared.Element.{Element}
 use Rattle.elements.specs.Kinds.{basin, reach, dam}
 use Rattle.elements.proofs.KindLaws.{by-basin, by-reach, by-dam}
-use Rattle.record.specs.declared.Observation.{Observation}
-use Rattle.record.specs.declared.Observation.TheVariants.{Nothing}
 use Rattle.element_step.specs.declared.Intake.{Intake}
 use Rattle.element_step.specs.ElementStep.{
   released,
@@ -40,53 +38,53 @@ use Rattle.element_step.specs.ElementStep.{
 use Rattle.element_step.specs.Answers.{corrected_answer, moved_answer, stored_answer, own_at, element_answer}
 
 -- a move with an inflow that was judged
-module _ (H : ℕ) (e : Element) (inflow old : Figures) {r : FiguresAnswer} (judged : figures_answer r ≡ inflow_answer inflow) where
+module _ (H : ℕ) (e : Element) (inflow old : Figures) {r : Result Figures Refusal} (judged : answer_of r ≡ inflow_answer inflow) where
   -- the inflow refuses
-  pub inflow-passes : {k : Refusal} → r ≡ Refused k → refused 16 ≡ moved_answer H e inflow old
+  pub inflow-passes : {k : Refusal} → r ≡ Err k → refused 16 ≡ moved_answer H e inflow old
   unfolding moved_answer inflow_answer
-  inflow-passes p = sym (refused-append _ _ _ _ (sym (ap figures_answer p) ∙ judged))
+  inflow-passes p = sym (refused-append _ _ _ _ (sym (ap answer_of p) ∙ judged))
 
   -- it does not: the move decides
   pub inflow-accepted :
       {x : Figures} {q : Estimate} {v : Answer Estimate} {answer : Answer Figures}
-      → r ≡ Accepted x
+      → r ≡ Ok x
       → q ≡ routed_discharge H x old
       → v ≡ parts_answer H e.system_noise.0 (variance x) (variance old)
       → answer ≡ routed_answer q v
       → answer ≡ moved_answer H e inflow old
   unfolding moved_answer moved inflow_answer routing_answer
   inflow-accepted p d w f =
-      let a = sym (ap figures_answer p) ∙ judged in
+      let a = sym (ap answer_of p) ∙ judged in
       let s = same-accepted _ inflow _ a in
       move-answered _ _ _ _ d w f ∙ rw s.0 (sym (accepted-append _ _ _ _ a))
 
 -- a move that was judged, and then the correction
-module _ (H : ℕ) (e : Element) (o : Observation) (inflow old : Figures) where
-  module _ {r : FiguresAnswer} (judged : figures_answer r ≡ moved_answer H e inflow old) where
+module _ (H : ℕ) (e : Element) (o : Option RatedReading) (inflow old : Figures) where
+  module _ {r : Result Figures Refusal} (judged : answer_of r ≡ moved_answer H e inflow old) where
     -- the move refuses
-    pub move-passes : {k : Refusal} → r ≡ Refused k → refused 16 ≡ stored_answer H e o inflow old
+    pub move-passes : {k : Refusal} → r ≡ Err k → refused 16 ≡ stored_answer H e o inflow old
     unfolding stored_answer stored_numbers move_numbers moved_answer
-    move-passes p = rw (← append_assoc) (sym (refused-append _ _ _ _ (sym (ap figures_answer p) ∙ judged)))
+    move-passes p = rw (← append_assoc) (sym (refused-append _ _ _ _ (sym (ap answer_of p) ∙ judged)))
 
     -- it does not: the correction decides
     pub move-accepted :
         {x : Figures} {after : Answer Figures}
-        → r ≡ Accepted x
+        → r ≡ Ok x
         → after ≡ corrected_answer o x
         → after ≡ stored_answer H e o inflow old
     unfolding stored_answer stored_numbers stored move_numbers moved_answer corrected_answer
     move-accepted p k =
-        let a = sym (ap figures_answer p) ∙ judged in
+        let a = sym (ap answer_of p) ∙ judged in
         let s = same-accepted _ old _ a in
         k ∙ rw (s.0, ← append_assoc) (sym (accepted-append _ _ _ _ a))
 
   -- where nothing is observed the move is all
-  pub move-alone : o ≡ Nothing → moved_answer H e inflow old ≡ stored_answer H e o inflow old
+  pub move-alone : o ≡ None → moved_answer H e inflow old ≡ stored_answer H e o inflow old
   unfolding stored_answer stored_numbers stored move_numbers moved_answer corrected_by observation_numbers
   move-alone n = rw (n, append-nil)
 
 -- what each kind decides: the new figures, and the numbers of 16
-module _ (H : ℕ) (e : Element) (own : Figures) (o : Observation) (above old : Figures) where
+module _ (H : ℕ) (e : Element) (own : Figures) (o : Option RatedReading) (above old : Figures) where
   basin-steps : e.kind ≡ basin → element_step H e own o above old ≡ stored H e o own old
   unfolding element_step
   basin-steps k = by-basin e.kind _ _ _ _ k
@@ -121,7 +119,7 @@ module _ (H : ℕ) (e : Element) (intake : Intake) (old : Figures) where
   abbrev own : Figures
   own = own_at e intake.own intake.lead
 
-  abbrev o : Observation
+  abbrev o : Option RatedReading
   o = intake.observation
 
   abbrev above : Figures

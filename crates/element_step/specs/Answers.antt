@@ -1,5 +1,6 @@
 -- What one element answers: its new figures, or 16.
-use Rattle.std.specs.Prelude.{ℕ, ◌++◌}
+use Rattle.rating.specs.declared.RatedReading.{RatedReading}
+use Rattle.std.specs.Prelude.{ℕ, ◌++◌, Option}
 use Rattle.refusal.specs.Answers.{Answer}
 use Rattle.units.specs.Ceiling.{under_ceiling}
 use Rattle.method.specs.declared.Figures.{Figures}
@@ -7,7 +8,6 @@ use Rattle.method.specs.Inflow.{inflow_numbers}
 use Rattle.method.specs.Routing.{routing_numbers}
 use Rattle.inflow.specs.Basin.{basin_inflow}
 use Rattle.elements.specs.declared.Element.{Element}
-use Rattle.record.specs.declared.Observation.{Observation}
 use Rattle.element_step.specs.declared.Intake.{Intake}
 use Rattle.element_step.specs.ElementStep.{
   released,
@@ -22,7 +22,7 @@ use Rattle.element_step.specs.ElementStep.{
 }
 
 -- the correction by what its gauge observed
-unfoldable pub corrected_answer : Observation → Figures → Answer Figures
+unfoldable pub corrected_answer : Option RatedReading → Figures → Answer Figures
 corrected_answer o x = under_ceiling (observation_numbers o x) (corrected_by o x)
 
 -- an inflow, and the move with it
@@ -31,7 +31,7 @@ moved_answer H e inflow old =
     under_ceiling (inflow_numbers inflow ++ routing_numbers H e.system_noise.0 inflow old) (moved H e inflow old)
 
 -- an inflow, the move and the correction
-unfoldable pub stored_answer : ℕ → Element → Observation → Figures → Figures → Answer Figures
+unfoldable pub stored_answer : ℕ → Element → Option RatedReading → Figures → Figures → Answer Figures
 stored_answer H e o inflow old = under_ceiling (stored_numbers H e o inflow old) (stored H e o inflow old)
 
 -- what it has of its own: a basin's inflow at a step (lead 0) or at a lead, a dam's release

@@ -3,22 +3,22 @@
 #![tactic(auto)]
 
 ghost use Rattle.std.specs.Prelude.{◌≢◌, ◌≡◌, ◌≤◌};
-ghost use Rattle.method.specs.Figures.{figures_answer, FiguresFit, AnsweredFiguresFit};
+ghost use Rattle.refusal.specs.Answers.{answer_of};
+ghost use Rattle.method.specs.Figures.{FiguresFit, AnsweredFiguresFit};
 ghost use Rattle.method.specs.Inflow.{reach_inflow};
 ghost use Rattle.inflow.specs.Basin.{basin_inflow};
 ghost use Rattle.elements.specs.Kinds.{dam};
-ghost use Rattle.record.specs.declared.Observation.TheVariants.{Nothing};
 ghost use Rattle.record.specs.Decoded.{ObservationFits};
 ghost use Rattle.element_step.specs.Rains.{shifted_rains};
 ghost use Rattle.element_step.specs.Bounds.{MoveInRange, StepInRange, tank_element, TankInRange};
 ghost use Rattle.element_step.specs.ElementStep.{released};
 ghost use Rattle.element_step.specs.Answers.{corrected_answer, moved_answer, stored_answer, element_answer};
 
+use rating::RatedReading;
 use correction::correct;
 use elements::Element;
 use inflow::{basin_inflow, reach_inflow};
-use method::{Figures, FiguresAnswer};
-use record::Observation;
+use method::Figures;
 use refusal::Refusal;
 use routing::{route_discharge, route_variance, routed_figures};
 use state::Rains;
@@ -31,19 +31,20 @@ pub struct Intake {
     pub own: u64,
     pub lead: u64,
     pub above: Figures,
-    pub observation: Observation,
+    pub observation: Option<RatedReading>,
 }
 
 // A reading corrects the element's figures, where its noise does not pass the ceiling; nothing observed leaves them.
-fn correct_by(observation: Observation, x: Figures) -> FiguresAnswer
+fn correct_by(observation: Option<RatedReading>, x: Figures) -> Result<Figures, Refusal>
     requires { ObservationFits observation × FiguresFit x }
-    ensures { (figures_answer result ≡ corrected_answer observation x) × AnsweredFiguresFit result }
+    ensures { (answer_of result ≡ corrected_answer observation x) × AnsweredFiguresFit result }
 {
     match observation {
-        Observation::Nothing => FiguresAnswer::Accepted(x),
-        Observation::Rated(z, noise) => {
+        None => Ok(x),
+        Some(rated) => {
+            let noise = rated.noise;
             if Variance::CEILING < noise.0 {
-                return FiguresAnswer::Refused(Refusal::AboveCeiling);
+                return Err(Refusal::AboveCeiling);
             }
             correct(noise, z, x)
         }
@@ -51,15 +52,13 @@ fn correct_by(observation: Observation, x: Figures) -> FiguresAnswer
 }
 
 // A basin at a step: what rain brings, judged, and the move with it.
-fn step_basin(e: Element, weight: u64, rain_inflow: u64, old: Figures) -> FiguresAnswer
+fn step_basin(e: Element, weight: u64, rain_inflow: u64, old: Figures) -> Result<Figures, Refusal>
     requires { MoveInRange e weight old }
-    ensures { (figures_answer result ≡ moved_answer weight e (basin_inflow rain_inflow 0 e.rain_noise.0) old) × AnsweredFiguresFit result }
+    ensures { (answer_of result ≡ moved_answer weight e (basin_inflow rain_inflow 0 e.rain_noise.0) old) × AnsweredFiguresFit result }
 {
     let noise = e.system_noise;
     let rain_noise = e.rain_noise;
-    let FiguresAnswer::Accepted(inflow) = basin_inflow(rain_inflow, 0, rain_noise.0) else {
-        return FiguresAnswer::Refused(Refusal::AboveCeiling);
-    };
+    let inflow = basin_inflow(rain_inflow, 0, rain_noise.0)?;
     routed_figures(
         route_discharge(weight, inflow, old),
         route_variance(weight, noise.0, inflow, old),
@@ -67,14 +66,12 @@ fn step_basin(e: Element, weight: u64, rain_inflow: u64, old: Figures) -> Figure
 }
 
 // A reach at a step: what drains in, judged, and the move with it.
-fn step_reach(e: Element, weight: u64, above: Figures, old: Figures) -> FiguresAnswer
+fn step_reach(e: Element, weight: u64, above: Figures, old: Figures) -> Result<Figures, Refusal>
     requires { MoveInRange e weight old }
-    ensures { (figures_answer result ≡ moved_answer weight e (reach_inflow above) old) × AnsweredFiguresFit result }
+    ensures { (answer_of result ≡ moved_answer weight e (reach_inflow above) old) × AnsweredFiguresFit result }
 {
     let noise = e.system_noise;
-    let FiguresAnswer::Accepted(inflow) = reach_inflow(above) else {
-        return FiguresAnswer::Refused(Refusal::AboveCeiling);
-    };
+    let inflow = reach_inflow(above)?;
     routed_figures(
         route_discharge(weight, inflow, old),
         route_variance(weight, noise.0, inflow, old),
@@ -83,13 +80,11 @@ fn step_reach(e: Element, weight: u64, above: Figures, old: Figures) -> FiguresA
 
 // A tank at a step or a lead, a reach by itself: what drains in, judged, and the move with it. (A function of its own: were `step_reach`
 // called from a second place, the compiler would not put it into the loop over the elements.)
-fn move_tank(noise: u64, weight: u64, above: Figures, old: Figures) -> FiguresAnswer
+fn move_tank(noise: u64, weight: u64, above: Figures, old: Figures) -> Result<Figures, Refusal>
     requires { TankInRange noise weight old }
-    ensures { (figures_answer result ≡ moved_answer weight (tank_element noise) (reach_inflow above) old) × AnsweredFiguresFit result }
+    ensures { (answer_of result ≡ moved_answer weight (tank_element noise) (reach_inflow above) old) × AnsweredFiguresFit result }
 {
-    let FiguresAnswer::Accepted(inflow) = reach_inflow(above) else {
-        return FiguresAnswer::Refused(Refusal::AboveCeiling);
-    };
+    let inflow = reach_inflow(above)?;
     routed_figures(
         route_discharge(weight, inflow, old),
         route_variance(weight, noise, inflow, old),
@@ -100,16 +95,14 @@ fn move_tank(noise: u64, weight: u64, above: Figures, old: Figures) -> FiguresAn
 pub fn step_tank(
     noise: u64,
     weight: u64,
-    observation: Observation,
+    observation: Option<RatedReading>,
     above: Figures,
     old: Figures,
-) -> FiguresAnswer
+) -> Result<Figures, Refusal>
     requires { TankInRange noise weight old × ObservationFits observation }
-    ensures { (figures_answer result ≡ stored_answer weight (tank_element noise) observation (reach_inflow above) old) × AnsweredFiguresFit result }
+    ensures { (answer_of result ≡ stored_answer weight (tank_element noise) observation (reach_inflow above) old) × AnsweredFiguresFit result }
 {
-    let FiguresAnswer::Accepted(x) = move_tank(noise, weight, above, old) else {
-        return FiguresAnswer::Refused(Refusal::AboveCeiling);
-    };
+    let x = move_tank(noise, weight, above, old)?;
     correct_by(observation, x)
 }
 
@@ -127,40 +120,34 @@ pub fn dam_figures(e: Element, release: u64) -> Figures
 }
 
 // One element at a step, by its kind: a basin and a reach move and are corrected, a dam lets out its release; all other bytes are refused.
-pub fn step_element(e: Element, weight: u64, intake: Intake, old: Figures) -> FiguresAnswer
+pub fn step_element(e: Element, weight: u64, intake: Intake, old: Figures) -> Result<Figures, Refusal>
     requires { StepInRange e weight intake old × (intake.lead ≡ 0) }
-    ensures { (figures_answer result ≡ element_answer weight e intake old) × AnsweredFiguresFit result }
+    ensures { (answer_of result ≡ element_answer weight e intake old) × AnsweredFiguresFit result }
 {
     let kind = e.kind;
     let observation = intake.observation;
     match kind {
         elements::BASIN => {
-            let FiguresAnswer::Accepted(x) = step_basin(e, weight, intake.own, old) else {
-                return FiguresAnswer::Refused(Refusal::AboveCeiling);
-            };
+            let x = step_basin(e, weight, intake.own, old)?;
             correct_by(observation, x)
         }
         elements::REACH => {
-            let FiguresAnswer::Accepted(x) = step_reach(e, weight, intake.above, old) else {
-                return FiguresAnswer::Refused(Refusal::AboveCeiling);
-            };
+            let x = step_reach(e, weight, intake.above, old)?;
             correct_by(observation, x)
         }
-        elements::DAM => FiguresAnswer::Accepted(dam_figures(e, intake.own)),
-        _ => FiguresAnswer::Refused(Refusal::ElementField),
+        elements::DAM => Ok(dam_figures(e, intake.own)),
+        _ => Err(Refusal::ElementField),
     }
 }
 
 // A basin at a lead.
-fn lead_basin(e: Element, weight: u64, rain_inflow: u64, lead: u64, old: Figures) -> FiguresAnswer
+fn lead_basin(e: Element, weight: u64, rain_inflow: u64, lead: u64, old: Figures) -> Result<Figures, Refusal>
     requires { (lead ≤ 12) × MoveInRange e weight old }
-    ensures { (figures_answer result ≡ moved_answer weight e (basin_inflow rain_inflow lead e.rain_noise.0) old) × AnsweredFiguresFit result }
+    ensures { (answer_of result ≡ moved_answer weight e (basin_inflow rain_inflow lead e.rain_noise.0) old) × AnsweredFiguresFit result }
 {
     let noise = e.system_noise;
     let rain_noise = e.rain_noise;
-    let FiguresAnswer::Accepted(inflow) = basin_inflow(rain_inflow, lead, rain_noise.0) else {
-        return FiguresAnswer::Refused(Refusal::AboveCeiling);
-    };
+    let inflow = basin_inflow(rain_inflow, lead, rain_noise.0)?;
     routed_figures(
         route_discharge(weight, inflow, old),
         route_variance(weight, noise.0, inflow, old),
@@ -168,14 +155,12 @@ fn lead_basin(e: Element, weight: u64, rain_inflow: u64, lead: u64, old: Figures
 }
 
 // A reach at a lead.
-fn lead_reach(e: Element, weight: u64, above: Figures, old: Figures) -> FiguresAnswer
+fn lead_reach(e: Element, weight: u64, above: Figures, old: Figures) -> Result<Figures, Refusal>
     requires { MoveInRange e weight old }
-    ensures { (figures_answer result ≡ moved_answer weight e (reach_inflow above) old) × AnsweredFiguresFit result }
+    ensures { (answer_of result ≡ moved_answer weight e (reach_inflow above) old) × AnsweredFiguresFit result }
 {
     let noise = e.system_noise;
-    let FiguresAnswer::Accepted(inflow) = reach_inflow(above) else {
-        return FiguresAnswer::Refused(Refusal::AboveCeiling);
-    };
+    let inflow = reach_inflow(above)?;
     routed_figures(
         route_discharge(weight, inflow, old),
         route_variance(weight, noise.0, inflow, old),
@@ -183,16 +168,16 @@ fn lead_reach(e: Element, weight: u64, above: Figures, old: Figures) -> FiguresA
 }
 
 // One element that stores water at a lead, where nothing is observed, by its kind; a dam's leads are worked out apart (`lead_walk`).
-pub fn lead_element(e: Element, weight: u64, intake: Intake, old: Figures) -> FiguresAnswer
-    requires { StepInRange e weight intake old × ((intake.observation ≡ Nothing) × (e.kind ≢ dam)) }
-    ensures { (figures_answer result ≡ element_answer weight e intake old) × AnsweredFiguresFit result }
+pub fn lead_element(e: Element, weight: u64, intake: Intake, old: Figures) -> Result<Figures, Refusal>
+    requires { StepInRange e weight intake old × ((intake.observation ≡ None) × (e.kind ≢ dam)) }
+    ensures { (answer_of result ≡ element_answer weight e intake old) × AnsweredFiguresFit result }
 {
     let kind = e.kind;
     match kind {
         elements::BASIN => lead_basin(e, weight, intake.own, intake.lead, old),
         elements::REACH => lead_reach(e, weight, intake.above, old),
-        elements::DAM => FiguresAnswer::Refused(Refusal::ElementField),
-        _ => FiguresAnswer::Refused(Refusal::ElementField),
+        elements::DAM => Err(Refusal::ElementField),
+        _ => Err(Refusal::ElementField),
     }
 }
 

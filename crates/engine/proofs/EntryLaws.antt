@@ -1,4 +1,5 @@
 -- Laws of the entries: the rules in checking order, and what an accepted table and record give.
+use Rattle.std.specs.Prelude.{Result, Ok, Err}
 use Prim.{Unit}
 use Prim.Native.Nat.{ℕ}
 use mathlib.Core.Bool.{true, false}
@@ -7,8 +8,6 @@ use mathlib.Core.Path.{◌≡◌, refl}
 use Rattle.refusal.specs.Refusals.{number}
 use Rattle.refusal.specs.Answers.{Answer, accepted, refused}
 use Rattle.refusal.specs.declared.Refusal.{Refusal}
-use Rattle.refusal.specs.declared.Verdict.{Verdict}
-use Rattle.refusal.specs.declared.Verdict.TheVariants.{Accepted, Refused}
 use Rattle.table.specs.Tables.{TableValues}
 use Rattle.table.specs.Rules.{table_rules}
 use Rattle.table.specs.InUse.{table_in}
@@ -27,15 +26,15 @@ pub start-accepted :
     (bytes : List ℕ) (s after : State)
     → table_rules {A = Unit} bytes (accepted tt) ≡ accepted tt
     → after ≡ started (table_in bytes) s
-    → Answered Accepted after (start_answer bytes s) s
+    → Answered (Ok tt) after (start_answer bytes s) s
 unfolding start_answer
 start-accepted bytes s after k h = answered-accepted refl (table-laws.rules-accepted bytes _ k) h
 
 -- an answer that the table's rules refuse
 pub refused-by-table :
-    (bytes : List ℕ) (rest : Answer State) (s : State) (v : Verdict) (k : Refusal)
+    (bytes : List ℕ) (rest : Answer State) (s : State) (v : Result Unit Refusal) (k : Refusal)
     → table_rules {A = Unit} bytes (accepted tt) ≡ refused (number k)
-    → v ≡ Refused k
+    → v ≡ Err k
     → Answered v s (table_rules bytes rest) s
 refused-by-table bytes rest s v k h e = answered-refused e (table-laws.rules-refused bytes rest h) refl
 

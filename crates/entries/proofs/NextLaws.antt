@@ -1,4 +1,7 @@
 -- A state that a start or an accepted step left is one that rule 8 accepts.
+use Rattle.rating.specs.declared.RatedReading.{RatedReading}
+use Rattle.refusal.specs.declared.Refusal.{Refusal}
+use Rattle.std.specs.Prelude.{Result, Ok, Option, Some, None}
 use Prim.{Unit}
 use Prim.Native.Nat.{ℕ, ◌+◌, ◌≤◌, ◌<◌}
 use mathlib.Core.Bool.{Bool, true, false, cond, ◌&&◌}
@@ -13,8 +16,6 @@ use lib.ListN.{length}
 use Rattle.sizes.specs.Sizes.{state_numbers}
 use Rattle.refusal.specs.Answers.{accepted, refused}
 use Rattle.refusal.proofs.RuleLaws.{not-both, rule-kept}
-use Rattle.refusal.specs.declared.Verdict.{Verdict}
-use Rattle.refusal.specs.declared.Verdict.TheVariants.{Accepted}
 use Rattle.units.specs.Ceiling.{some_passes, under_ceiling}
 use Rattle.units.proofs.UnderLaws.{Under, first_under, parts-under}
 use Rattle.method.specs.declared.Figures.{Figures}
@@ -32,8 +33,6 @@ use Rattle.table.specs.Bounds.{TableBounds}
 use Rattle.table.specs.KindCounts.{extra_count}
 use Rattle.cells.specs.Cells.{last_cell, cells}
 use Rattle.cells.proofs.CellLaws.{last-most, last-in-use, last-place, cell_kind, one-kind, last-kind, cell-used, tank-found}
-use Rattle.record.specs.declared.Observation.{Observation}
-use Rattle.record.specs.declared.Observation.TheVariants.{Nothing, Rated}
 use Rattle.record.specs.Records.{Input, input_at}
 use Rattle.record.specs.Rules.{record_rules}
 use Rattle.record.proofs.RecordLaws as record-laws
@@ -87,20 +86,20 @@ corrected-fit R z x u =
     record { discharge = q.0; discharge_margin = e.0; variance = v.0; variance_margin = d.0 }
 
 moved_fit :
-    (H : ℕ) (e : Element) (o : Observation) (inflow old : Figures)
+    (H : ℕ) (e : Element) (o : Option RatedReading) (inflow old : Figures)
     → Under (move_numbers H e o inflow old)
     → FiguresFit (corrected_by o (moved H e inflow old))
 unfolding move_numbers observation_numbers corrected_by moved
-moved_fit H e Nothing inflow old u =
+moved_fit H e None inflow old u =
     routed-fit H e.system_noise.0 inflow old (parts-under (routing_numbers H e.system_noise.0 inflow old) [] u).0
-moved_fit H e (Rated z noise) inflow old u =
+moved_fit H e (Some r) inflow old u =
     let x = routed H e.system_noise.0 inflow old in
-    let observed = (parts-under (routing_numbers H e.system_noise.0 inflow old) (noise.0 ∷ correction_numbers noise.0 z.0 x) u).1 in
-    corrected-fit noise.0 z.0 x (first_under noise.0 _ observed).1
+    let observed = (parts-under (routing_numbers H e.system_noise.0 inflow old) (r.noise.0 ∷ correction_numbers r.noise.0 r.discharge.0 x) u).1 in
+    corrected-fit r.noise.0 r.discharge.0 x (first_under r.noise.0 _ observed).1
 
 -- an element that stores water, and any
 stored-fit :
-    (H : ℕ) (e : Element) (o : Observation) (inflow old : Figures)
+    (H : ℕ) (e : Element) (o : Option RatedReading) (inflow old : Figures)
     → Under (stored_numbers H e o inflow old)
     → FiguresFit (stored H e o inflow old)
 unfolding stored_numbers stored
@@ -111,7 +110,7 @@ unfolding no_inflow
 nothing-fits = record { discharge = omega arith; discharge_margin = omega arith; variance = omega arith; variance_margin = omega arith }
 
 element-fit :
-    (H : ℕ) (e : Element) (own : Figures) (o : Observation) (above old : Figures)
+    (H : ℕ) (e : Element) (own : Figures) (o : Option RatedReading) (above old : Figures)
     → Under (element_numbers H e own o above old)
     → FiguresFit (element_step H e own o above old)
 unfolding element_numbers element_step
@@ -121,7 +120,7 @@ element-fit H e own o above old =
 
 -- the new figures of an element, where the numbers of the first m pass rule 16
 pub new-fit :
-    (t : TableValues) (own : ℕ → Figures) (o : ℕ → Observation) (old : ℕ → Figures) (m i : ℕ)
+    (t : TableValues) (own : ℕ → Figures) (o : ℕ → (Option RatedReading)) (old : ℕ → Figures) (m i : ℕ)
     → i < m
     → Under (network_numbers t own o old m)
     → FiguresFit (new_figures t own o old i)
@@ -261,7 +260,7 @@ module _ (t : TableValues) (bytes : List ℕ) (s next : State) (b : TableBounds 
   next-length h = rw (stepping-on t bytes s next h).1 (stepped-length t (input_at (cells t) bytes) s ∙ full)
 
   -- and so with the state that an entry leaves after a step that it accepts
-  pub answered-fits : (v : Verdict) → Answered v next (step_on_answer t bytes s) s → v ≡ Accepted → state_fits t next ≡ true
+  pub answered-fits : (v : Result Unit Refusal) → Answered v next (step_on_answer t bytes s) s → v ≡ (Ok tt) → state_fits t next ≡ true
   answered-fits v h e = next_fits (answered-next v next _ s h e)
 
 -- ---- the start

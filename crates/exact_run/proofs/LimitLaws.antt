@@ -1,4 +1,6 @@
 -- One step or lead of the network: where no reading has come in at or above an element, 16 × n × c becomes 16 × (n + 1) × c.
+use Rattle.rating.specs.declared.RatedReading.{RatedReading}
+use Rattle.std.specs.Prelude.{Option, None}
 use Prim.Native.Nat.{ℕ, zero, suc, ◌+◌, ◌*◌, ◌≤◌, ◌<◌}
 use mathlib.Core.Bool.{Bool, true, false, cond}
 use mathlib.Core.List.{List}
@@ -19,8 +21,6 @@ use Rattle.elements.specs.Kinds.{basin, reach}
 use Rattle.elements.proofs.KindLaws.{kind-cases}
 use Rattle.table.specs.Tables.{TableValues}
 use Rattle.table.specs.Bounds.{TableBounds}
-use Rattle.record.specs.declared.Observation.{Observation}
-use Rattle.record.specs.declared.Observation.TheVariants.{Nothing}
 use Rattle.walk.specs.Walk.{drained, walked, gathered, new_cell}
 use Rattle.element_step.specs.ElementStep.{corrected_by, moved, stored, element_step}
 use Rattle.network.specs.Step.{weight_of, network_down, network_cell, network_outflow, above_of, new_figures}
@@ -51,7 +51,7 @@ move-limit H n d inflow old h ln ld vi vo mi mo W =
           (omega (arith, mul-le-mul ln ld)),
     )
 
-not-corrected : (o : Observation) (x : Figures) → o ≡ Nothing → corrected_by o x ≡ x
+not-corrected : (o : Option RatedReading) (x : Figures) → o ≡ None → corrected_by o x ≡ x
 unfolding corrected_by
 not-corrected o x e = rw e refl
 
@@ -68,14 +68,14 @@ no-reading-before :
 no-reading-before n down has_reading has_reading' i f q = record { none = λ k u v p. still (has_reading k) (has_reading' k) (f k) (q.none k u v p) }
 
 module _
-    (t : TableValues) (own : ℕ → Figures) (o : ℕ → Observation) (old : ℕ → Figures) (has_reading has_reading' : ℕ → Bool) (n : ℕ)
+    (t : TableValues) (own : ℕ → Figures) (o : ℕ → (Option RatedReading)) (old : ℕ → Figures) (has_reading has_reading' : ℕ → Bool) (n : ℕ)
     (b : TableBounds t) (few : suc n ≤ 10_000 + most_leads)
     (old-fits : (i : ℕ) → i < t.elements → (old i).discharge.0 ≤ C)
     (own-fits : (i : ℕ) → i < t.elements → (t.element i).kind ≡ basin → (own i).discharge.0 ≤ C)
     (above-fits : (i : ℕ) → i < t.elements → (t.element i).kind ≡ reach → (reach_inflow (above_of t own o old i)).discharge.0 ≤ C)
     (own-margin : (i : ℕ) → i < t.elements → margin_of (own i) ≤ 1)
     (readings-stay : (k : ℕ) → has_reading k ≡ true → has_reading' k ≡ true)
-    (not-observed : (i : ℕ) → i < t.elements → has_reading' (i + 1) ≡ false → o i ≡ Nothing)
+    (not-observed : (i : ℕ) → i < t.elements → has_reading' (i + 1) ≡ false → o i ≡ None)
     (before :
     (i : ℕ)
     → i < t.elements

@@ -1,4 +1,7 @@
 -- What an accepted record brings an element follows what it brings it in fractions.
+use Rattle.units.specs.declared.Stage.{Stage}
+use Rattle.rating.specs.declared.RatedReading.{RatedReading}
+use Rattle.std.specs.Prelude.{Option, Some, None}
 use Prim.{Unit}
 use Prim.Native.Nat.{ℕ, zero, suc, ◌+◌, ◌≤◌, ◌<◌}
 use mathlib.Core.Bool.{Bool, true, false, cond}
@@ -26,10 +29,6 @@ use Rattle.gauges.specs.Looks.{look_by, look_on}
 use Rattle.gauges.specs.Bounds.{GaugeBounds}
 use Rattle.table.specs.Tables.{TableValues}
 use Rattle.table.specs.Bounds.{TableBounds}
-use Rattle.record.specs.declared.Observation.{Observation}
-use Rattle.record.specs.declared.Observation.TheVariants.{Nothing}
-use Rattle.record.specs.declared.Reading.{Reading}
-use Rattle.record.specs.declared.Reading.TheVariants.{At, Gap}
 use Rattle.record.specs.Records.{reading_at, rate_answer, observation_of, accepted_observation, observation_at, at_element, input_rain, input_release, input_observation, input_at}
 use Rattle.record.specs.Rules.{is_accepted, reading_fits, record_rules}
 use Rattle.record.proofs.RecordLaws.{rules-kept}
@@ -66,10 +65,10 @@ module _ (n : ℕ) (gauge : Gauge) (b : GaugeBounds n gauge) where
   rated-near h (refused k) e ok = let z : ◌≡◌ {A = ℕ} 0 1 = cc in absurd (omega arith)
 
   observed-near :
-      (r : Reading) → is_accepted (observation_of gauge r) ≡ true → Observes (accepted_observation (observation_of gauge r)) (exact_observed gauge r)
+      (r : Option Stage) → is_accepted (observation_of gauge r) ≡ true → Observes (accepted_observation (observation_of gauge r)) (exact_observed gauge r)
   unfolding observation_of exact_observed accepted_observation look_on look_by
-  observed-near Gap ok = no-reading
-  observed-near (At h) ok = rated-near h.0 (rated h.0 (pieces_of gauge.curve)) refl ok
+  observed-near None ok = no-reading
+  observed-near (Some h) ok = rated-near h.0 (rated h.0 (pieces_of gauge.curve)) refl ok
 
 module _ (t : TableValues) (bytes : List ℕ) (b : TableBounds t) (kept : record_rules {A = Unit} t bytes (accepted tt) ≡ accepted tt) where
   accepted-reading : (g : ℕ) → g < t.gauges → is_accepted (observation_of (t.gauge g) (reading_at t bytes g)) ≡ true
@@ -79,7 +78,7 @@ module _ (t : TableValues) (bytes : List ℕ) (b : TableBounds t) (kept : record
   at-element :
       (i m : ℕ)
       → m ≤ t.gauges
-      → Observes (at_element t Nothing (observation_at t bytes) i m) (at_element t nothing (λ g. exact_observed (t.gauge g) (reading_at t bytes g)) i m)
+      → Observes (at_element t None (observation_at t bytes) i m) (at_element t nothing (λ g. exact_observed (t.gauge g) (reading_at t bytes g)) i m)
   unfolding at_element observation_at
   at-element i zero l = no-reading
   at-element i (suc g) l =
@@ -87,7 +86,7 @@ module _ (t : TableValues) (bytes : List ℕ) (b : TableBounds t) (kept : record
       (observed-near t.elements (t.gauge g) (b.gauge g (omega arith)) (reading_at t bytes g) (accepted-reading g (omega arith)))
       (at-element i g (omega arith))
     where
-      go : (here : Bool) {o p : Observation} {o* p* : ExactObservation} → Observes o o* → Observes p p* → Observes (cond here o p) (cond here o* p*)
+      go : (here : Bool) {o p : Option RatedReading} {o* p* : ExactObservation} → Observes o o* → Observes p p* → Observes (cond here o p) (cond here o* p*)
       go true x y = x
       go false x y = y
 

@@ -1,4 +1,6 @@
 -- The step of the whole network stays within its margins of the step in fractions.
+use Rattle.rating.specs.declared.RatedReading.{RatedReading}
+use Rattle.std.specs.Prelude.{Option}
 use Prim.Native.Nat.{ℕ, ◌≤◌, ◌<◌}
 use native.Mathlib.Omega.{arith}
 use Rattle.weighting.specs.Weight.{weight}
@@ -11,7 +13,6 @@ use Rattle.elements.specs.declared.Element.{Element}
 use Rattle.elements.proofs.KindLaws.{by-basin, by-reach, kind-both}
 use Rattle.table.specs.Tables.{TableValues}
 use Rattle.table.specs.Bounds.{TableBounds}
-use Rattle.record.specs.declared.Observation.{Observation}
 use Rattle.walk.specs.Walk.{gathered, new_cell, outflow}
 use Rattle.walk.proofs.WalkLaws.{new-cell-kept}
 use Rattle.element_step.specs.ElementStep.{corrected_by, moved, stored, element_step}
@@ -20,7 +21,7 @@ use Rattle.exact_run.specs.ExactStep.{ExactObservation, exact_corrected_by, exac
 use Rattle.exact_run.specs.Following.{Observes, no-reading, reading}
 
 corrected-follows :
-    {o : Observation} {o* : ExactObservation} {x : Figures} {x* : ExactFigures}
+    {o : Option RatedReading} {o* : ExactObservation} {x : Figures} {x* : ExactFigures}
     → Observes o o*
     → Follows x x*
     → Follows (corrected_by o x) (exact_corrected_by o* x*)
@@ -30,7 +31,7 @@ corrected-follows (reading least near) f = correction-near least near f
 
 -- an element that stores water
 stored-follows :
-    (T : ℕ) (e : Element) {o : Observation} {o* : ExactObservation} {inflow old : Figures} {inflow* old* : ExactFigures}
+    (T : ℕ) (e : Element) {o : Option RatedReading} {o* : ExactObservation} {inflow old : Figures} {inflow* old* : ExactFigures}
     → 1 ≤ T
     → (T ≤ e.lag) × (e.lag ≤ 60000)
     → Observes o o*
@@ -43,7 +44,7 @@ stored-follows T e least lag seen i x =
 
 -- from figures and what each element has of its own that follow, and observations that do, to new figures that follow, at every element
 pub step-near :
-    (t : TableValues) (own : ℕ → Figures) (o : ℕ → Observation) (old : ℕ → Figures) (own* : ℕ → ExactFigures)
+    (t : TableValues) (own : ℕ → Figures) (o : ℕ → (Option RatedReading)) (old : ℕ → Figures) (own* : ℕ → ExactFigures)
     (o* : ℕ → ExactObservation) (old* : ℕ → ExactFigures)
     → TableBounds t
     → ((i : ℕ) → i < t.elements → Follows (own i) (own* i))

@@ -1,6 +1,8 @@
 -- Document 01, The run in fractions: "The same steps with exact F, no [ ], no margins and no ceiling."; document 02, M-100: "The run in
 -- fractions does the same with the same release, and its dam's variance after a step or lead is W too."
-use Rattle.std.specs.Prelude.{ℕ, List}
+use Rattle.units.specs.declared.Stage.{Stage}
+use Rattle.rating.specs.declared.RatedReading.{RatedReading}
+use Rattle.std.specs.Prelude.{ℕ, List, Option, Some, None}
 use Rattle.refusal.specs.Answers.{Answer, accepted, refused}
 use Rattle.exact.specs.Fraction.{Fraction, whole}
 use Rattle.exact.specs.Series.{F}
@@ -8,12 +10,9 @@ use Rattle.exact.specs.Exact.{ExactFigures, exact_routed, exact_corrected, exact
 use Rattle.elements.specs.declared.Element.{Element}
 use Rattle.elements.specs.Kinds.{by_kind}
 use Rattle.rating.specs.Rating.{pieces_of}
-use Rattle.rating.specs.Noise.{RatedReading}
 use Rattle.gauges.specs.declared.Gauge.{Gauge}
 use Rattle.gauges.specs.Looks.{look_on}
 use Rattle.table.specs.Tables.{TableValues}
-use Rattle.record.specs.declared.Reading.{Reading}
-use Rattle.record.specs.declared.Reading.TheVariants.{At, Gap}
 use Rattle.record.specs.Records.{reading_at, at_element, input_rain, input_release}
 use Rattle.walk.specs.Walk.{new_cell}
 use Rattle.network.specs.Step.{network_down}
@@ -32,9 +31,9 @@ unfoldable pub given_noise : Answer RatedReading → ℕ
 given_noise (accepted r) = r.noise.0
 given_noise (refused n) = 0
 
-unfoldable pub exact_observed : Gauge → Reading → ExactObservation
-exact_observed gauge Gap = nothing
-exact_observed gauge (At h) = exact_reading (given_noise (look_on gauge h.0).answer) (exact_rated h.0 (pieces_of gauge.curve))
+unfoldable pub exact_observed : Gauge → Option Stage → ExactObservation
+exact_observed gauge None = nothing
+exact_observed gauge (Some h) = exact_reading (given_noise (look_on gauge h.0).answer) (exact_rated h.0 (pieces_of gauge.curve))
 
 -- what a record brings element i: what the gauge at it observes, and what it has of its own
 unfoldable pub exact_observation_in : TableValues → List ℕ → ℕ → ExactObservation

@@ -1,4 +1,5 @@
 -- Laws of the gauges: what rule 7 asks and what it lets callers rely on.
+use Rattle.rating.specs.declared.RatedReading.{RatedReading}
 use Prim.Native.Nat.{ℕ, zero, suc, ◌+◌, ◌-◌, ◌*◌, ◌≤◌, ◌<◌}
 use mathlib.Core.Bool.{true, ◌&&◌}
 use mathlib.Core.List.{List}
@@ -14,7 +15,7 @@ use Rattle.refusal.specs.Answers.{Answer, accepted, refused}
 use Rattle.units.specs.Units.{C}
 use Rattle.units.specs.declared.Discharge.{Discharge}
 use Rattle.rating.specs.Rating.{OffsetFits, PieceFits, CurveFits, pieces_of, rated}
-use Rattle.rating.specs.Noise.{RatedReading, with_noise}
+use Rattle.rating.specs.Noise.{with_noise}
 use Rattle.rating.specs.Bounds.{NoiseInRange, RatingFits}
 use Rattle.rating.specs.Looks.{piece_number, PieceTaken}
 use Rattle.rating.proofs.LookLaws.{number-taken}

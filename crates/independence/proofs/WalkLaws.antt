@@ -1,5 +1,7 @@
 -- Two walks by inputs that differ at one gauge: cells are equal where its water does not come, and so is what drains into an element that
 -- it does not reach, unless that is a dam.
+use Rattle.rating.specs.declared.RatedReading.{RatedReading}
+use Rattle.std.specs.Prelude.{Option}
 use Prim.Native.Nat.{ℕ, ◌+◌, ◌<◌}
 use mathlib.Core.Logic.{◌≢◌}
 use mathlib.Core.Path.{◌≡◌, refl, sym, ap, subst}
@@ -9,7 +11,6 @@ use Rattle.method.specs.Inflow.{no_inflow, joined_inflow, old_and_new_outflow}
 use Rattle.elements.specs.Kinds.{dam}
 use Rattle.elements.proofs.KindLaws.{kind-both}
 use Rattle.table.specs.Tables.{TableValues}
-use Rattle.record.specs.declared.Observation.{Observation}
 use Rattle.walk.specs.Walk.{new_cell, outflow}
 use Rattle.walk.proofs.WalkLaws.{new-cell-kept}
 use Rattle.element_step.specs.ElementStep.{element_step}
@@ -24,7 +25,7 @@ module _ (t : TableValues) (from : ℕ) where
     pub at : (Reached t from (i + 1) → ⊥) → a ≡ b
 
   module _
-      (own own* : ℕ → Figures) (o o* : ℕ → Observation) (old : ℕ → Figures)
+      (own own* : ℕ → Figures) (o o* : ℕ → (Option RatedReading)) (old : ℕ → Figures)
       (same-own : (i : ℕ) → i < t.elements → own i ≡ own* i)
       (same_seen : (i : ℕ) → i < t.elements → (Reached t from (i + 1) → ⊥) → o i ≡ o* i) where
     pub same-figures :

@@ -1,19 +1,18 @@
 -- Document 02, M-102: "two accepted trials from one state that differ in one gauge's reading, or in its being a gap, agree at every element
 -- that this gauge's water does not reach." Gauges are counted from 0; elements too, unless they go by their numbers, from 1.
-use Rattle.std.specs.Prelude.{ℕ, ◌+◌, ◌*◌, ◌<◌, List, ◌≢◌, ◌≡◌, length, get_or}
+use Rattle.std.specs.Prelude.{ℕ, ◌+◌, ◌*◌, ◌<◌, List, ◌≢◌, ◌≡◌, length, get_or, Ok}
 use Rattle.elements.specs.Kinds.{dam}
 use Rattle.table.specs.Tables.{TableValues}
 use Rattle.table.specs.KindCounts.{basin_count, dam_count}
 use Rattle.record.specs.Records.{rain_at, release_at, reading_at}
 use Rattle.state.specs.States.{State}
-use Rattle.network.specs.declared.ForecastAnswer.TheVariants.{Accepted}
 use Rattle.network.specs.Lent.{Lent}
 use Rattle.entries.specs.Trials.{trial_answer}
 
 -- "accepted trials": what the contract of `trial` says of a table, a record, a state and lent numbers, which it has written
 pub record AcceptedTrial (table bytes : List ℕ) (s : State) (lent written : List ℕ) : Type 0 where
   pub count : ℕ
-  pub answered : Lent (Accepted count) written (trial_answer table bytes s (length lent)) lent
+  pub answered : Lent (Ok count) written (trial_answer table bytes s (length lent)) lent
 
 -- "that differ in one gauge's reading, or in its being a gap": equal rains, equal releases, and equal readings, stages or gaps, at every
 -- gauge but g

@@ -2,11 +2,13 @@
 #![tactic(auto)]
 
 ghost use Rattle.std.specs.Prelude.{◌≡◌, ◌/◌, ◌≤◌};
-ghost use Rattle.method.specs.Figures.{figures_answer, AnsweredFiguresFit};
+ghost use Rattle.refusal.specs.Answers.{answer_of};
+ghost use Rattle.method.specs.Figures.{AnsweredFiguresFit};
 ghost use Rattle.method.specs.Inflow.{mean_rain_inflow, old_outflow, reach_inflow, inflow_answer};
 ghost use Rattle.inflow.specs.Basin.{basin_inflow};
 
-use method::{Figures, FiguresAnswer};
+use refusal::Refusal;
+use method::Figures;
 use units::Variance;
 use weighting::Estimate;
 
@@ -25,9 +27,9 @@ pub fn mean_rain_inflow(sum: u64, count: u64, area: u64, runoff: u64) -> u64
 }
 
 // The figures of a basin's inflow at a step (lead 0) or at a lead, by its rain inflow and its rain noise.
-pub fn basin_inflow(rain_inflow: u64, lead: u64, noise: u64) -> FiguresAnswer
+pub fn basin_inflow(rain_inflow: u64, lead: u64, noise: u64) -> Result<Figures, Refusal>
     requires { (lead ≤ 12) × (noise ≤ 100000000) }
-    ensures { (figures_answer result ≡ inflow_answer (basin_inflow rain_inflow lead noise)) × AnsweredFiguresFit result }
+    ensures { (answer_of result ≡ inflow_answer (basin_inflow rain_inflow lead noise)) × AnsweredFiguresFit result }
 {
     Figures::new(
         Estimate {
@@ -63,8 +65,8 @@ fn half(sum: u64) -> u64
 }
 
 // The figures of a reach's inflow, of the sums of what drains into it: half of the old and new discharges, the new variances.
-pub fn reach_inflow(above: Figures) -> FiguresAnswer
-    ensures { (figures_answer result ≡ inflow_answer (reach_inflow above)) × AnsweredFiguresFit result }
+pub fn reach_inflow(above: Figures) -> Result<Figures, Refusal>
+    ensures { (answer_of result ≡ inflow_answer (reach_inflow above)) × AnsweredFiguresFit result }
 {
     let sum = above.discharge;
     let margins = above.discharge_margin;

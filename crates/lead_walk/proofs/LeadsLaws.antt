@@ -1,4 +1,6 @@
 -- The leads of one element, one after the other.
+use Rattle.std.specs.Prelude.{Result, Ok, Err}
+use Rattle.refusal.specs.Answers.{answer_of}
 use Prim.Native.Nat.{ℕ, zero, suc, ◌+◌, ◌≤◌, ◌<◌}
 use mathlib.Core.List.{List}
 use mathlib.Core.Logic.{◌≢◌, ⊎_elim, inl, inr}
@@ -11,15 +13,11 @@ use lib.ListN.{length}
 use Rattle.sizes.specs.Sizes.{most_leads}
 use Rattle.refusal.specs.declared.Refusal.{Refusal}
 use Rattle.refusal.specs.declared.Refusal.TheVariants.{AboveCeiling}
-use Rattle.refusal.specs.declared.Verdict.TheVariants as of-verdict
-use Rattle.refusal.specs.Verdicts.{verdict_answer}
 use Rattle.refusal.proofs.RuleLaws.{not-both}
 use Rattle.units.proofs.UnderLaws.{Under, none-under, parts-under, both_under, under-accepted, known_under, refused-whole}
 use Rattle.units.proofs.CeilingLaws.{same-accepted, same-refused}
 use Rattle.method.specs.declared.Figures.{Figures}
-use Rattle.method.specs.declared.FiguresAnswer.{FiguresAnswer}
-use Rattle.method.specs.declared.FiguresAnswer.TheVariants.{Accepted, Refused}
-use Rattle.method.specs.Figures.{figures_answer, FiguresFit}
+use Rattle.method.specs.Figures.{FiguresFit}
 use Rattle.method.specs.Inflow.{joined_inflow, old_outflow, old_and_new_outflow}
 use Rattle.answer_space.specs.Places.{figures_at, added, most_sum_before, FiguresBelow}
 use Rattle.one_lead.specs.declared.ElementInput.{ElementInput}
@@ -110,24 +108,24 @@ module _ (c : ElementInput) (first : Figures) (here below : ℕ) (before : List 
         lead_step_numbers c (c.first_lead + m) (figures_at now (here + m)) old ≡ lead_part c first (drained_at before here) m
     numbers-are = rw (above-is, is)
 
-    module _ (r : FiguresAnswer) (next : List ℕ) (w : LeadWorked (old_and_new_outflow old) r c (lead_at c here below m) old now next) where
+    module _ (r : Result Figures Refusal) (next : List ℕ) (w : LeadWorked (old_and_new_outflow old) r c (lead_at c here below m) old now next) where
       -- it is refused, and with it the element
       element-refused :
           {k : Refusal}
-          → r ≡ Refused k
-          → ElementWorked (of-verdict.Refused AboveCeiling) c first here below leads before next
+          → r ≡ Err k
+          → ElementWorked (Err AboveCeiling) c first here below leads before next
       element-refused e =
           record {
             verdict =
                 refused-whole tt _ (numbers leads) (λ u. rw numbers-are (part_of c first _ m leads less u))
-                (sym (same-refused _ tt _ (sym (ap figures_answer e) ∙ w.answer)));
-            done = λ a. absurd (not-both (ap verdict_answer a) refl);
+                (sym (same-refused _ tt _ (sym (ap answer_of e) ∙ w.answer)));
+            done = λ a. absurd (not-both (ap answer_of a) refl);
           }
 
-      module _ (x : Figures) (e : r ≡ Accepted x) where
+      module _ (x : Figures) (e : r ≡ Ok x) where
         step-known : (x ≡ lead_step c (c.first_lead + m) (figures_at now (here + m)) old) × Under (lead_part c first (drained_at before here) m)
         step-known =
-            let a = sym (ap figures_answer e) ∙ w.answer in
+            let a = sym (ap answer_of e) ∙ w.answer in
             ((same-accepted _ first _ a).0, rw numbers-are at (known_under _ _ a))
 
         x-is : x ≡ along (suc m)
@@ -220,13 +218,13 @@ module _
   pub number-few : InputInRange c → c.first_lead + k ≤ most_leads
   number-few in_range = omega (arith, less, places.short, in_range.first_lead)
 
-  module _ (r : FiguresAnswer) (next : List ℕ) (w : LeadWorked (old_and_new_outflow old) r c (lead_at c here below k) old now next) where
+  module _ (r : Result Figures Refusal) (next : List ℕ) (w : LeadWorked (old_and_new_outflow old) r c (lead_at c here below k) old now next) where
     -- it is refused, and with it the element
-    pub leads-refused : {n : Refusal} → r ≡ Refused n → ElementWorked (of-verdict.Refused AboveCeiling) c first here below leads before next
+    pub leads-refused : {n : Refusal} → r ≡ Err n → ElementWorked (Err AboveCeiling) c first here below leads before next
     leads-refused e = element-refused c first here below before k leads now old h.done h.is less places.apart r next w e
 
     -- one lead more
-    pub leads-again : {x : Figures} → r ≡ Accepted x → LeadsSoFar c first here below leads before (k + 1) next x
+    pub leads-again : {x : Figures} → r ≡ Ok x → LeadsSoFar c first here below leads before (k + 1) next x
     leads-again {x} e =
         record {
           few = omega (arith, less);
@@ -247,14 +245,14 @@ leads-done {c} {first} {here} {below} {leads} {before} {k} {now} e h =
 pub element-accepted :
     {c : ElementInput} {first : Figures} {here below leads : ℕ} {before after : List ℕ}
     → LeadsDone c first here below leads before after
-    → ElementWorked of-verdict.Accepted c first here below leads before after
+    → ElementWorked (Ok tt) c first here below leads before after
 element-accepted g = record { verdict = under-accepted tt _ g.under; done = λ a. g }
 
 -- a step is one lead, of number 0, whose old figures are added first: what its code has worked out
 module _
     (c : ElementInput) (first : Figures) (here below : ℕ) (before space after : List ℕ) (number : c.first_lead ≡ 0)
     (ready : LeadReady most_sum_before c (step_lead here below) first before) (is : space ≡ added before below (old_outflow first))
-    (r : FiguresAnswer) (w : LeadWorked (λ x. x) r c (step_lead here below) first space after) where
+    (r : Result Figures Refusal) (w : LeadWorked (λ x. x) r c (step_lead here below) first space after) where
   begun : LeadsDone c first here below 0 before before
   begun = done-begin c first here below before ready.old
 
@@ -276,11 +274,11 @@ module _
 
   -- it is refused
   pub work-step-refused :
-      {k : Refusal} → r ≡ Refused k → ElementWorked (of-verdict.Refused AboveCeiling) c first here below 1 before after
+      {k : Refusal} → r ≡ Err k → ElementWorked (Err AboveCeiling) c first here below 1 before after
   work-step-refused e =
       element-refused _ _ _ _ _ _ 1 _ _ begun (first-is c first here below before) (omega arith) apart _ _ worked e
 
   -- it is done
-  pub work-step-done : {x : Figures} → r ≡ Accepted x → LeadsDone c first here below 1 before after
+  pub work-step-done : {x : Figures} → r ≡ Ok x → LeadsDone c first here below 1 before after
   work-step-done e =
       done-again _ _ _ _ _ _ 1 _ _ begun (first-is c first here below before) (omega arith) apart _ _ worked _ e

@@ -1,4 +1,6 @@
 -- The walk down the network, each element through all its leads: what the working space holds after i elements. A step is one lead.
+use Rattle.rating.specs.declared.RatedReading.{RatedReading}
+use Rattle.std.specs.Prelude.{Option}
 use Prim.Native.Nat.{ℕ, zero, suc, ◌+◌, ◌*◌, ◌≤◌, ◌<◌}
 use mathlib.Core.Bool.{Bool, true, false, cond}
 use mathlib.Core.List.{List}
@@ -15,7 +17,6 @@ use Rattle.method.specs.Figures.{FiguresFit}
 use Rattle.method.specs.Inflow.{no_inflow, joined_inflow, old_and_new_outflow}
 use Rattle.method.proofs.InflowLaws.{old-outflow-fits}
 use Rattle.table.specs.Tables.{TableValues}
-use Rattle.record.specs.declared.Observation.{Observation}
 use Rattle.element_step.specs.ElementStep.{moved, stored, element_step, move_numbers, stored_numbers, element_numbers}
 use Rattle.walk.specs.Walk.{drained, walked, new_cell, outflow}
 use Rattle.walk.specs.Space.{Later, Turned}
@@ -47,7 +48,7 @@ outflow-below f g = joined-below (fits_below (old-outflow-fits f)) (fits_below g
 -- what each element has of its own and its old figures by lead and element, observations by element; rows of w places, the first lead of a
 -- row at `from`; the elements whose figures are kept, and their rows
 module _
-    (t : TableValues) (own : ℕ → ℕ → Figures) (o : ℕ → Observation) (old : ℕ → ℕ → Figures) (w from : ℕ) (Kept : ℕ → Type 0)
+    (t : TableValues) (own : ℕ → ℕ → Figures) (o : ℕ → (Option RatedReading)) (old : ℕ → ℕ → Figures) (w from : ℕ) (Kept : ℕ → Type 0)
     (at : ℕ → ℕ) where
   -- with the names of the definitions at these
   abbrev row_at : ℕ → List ℕ → ℕ → Figures

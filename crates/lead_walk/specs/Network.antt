@@ -1,12 +1,12 @@
 -- Serves the code: what its working space holds after the first i elements, each worked out through all its leads; a step is one lead. A space
 -- has rows, one for the sums that an element waits for and then for its figures.
-use Rattle.std.specs.Prelude.{ℕ, ◌+◌, ◌*◌, ◌<◌, false, cond, List, ◌≡◌, eqb}
+use Rattle.rating.specs.declared.RatedReading.{RatedReading}
+use Rattle.std.specs.Prelude.{ℕ, ◌+◌, ◌*◌, ◌<◌, false, cond, List, ◌≡◌, eqb, Option}
 use Rattle.units.specs.Ceiling.{some_passes}
 use Rattle.method.specs.declared.Figures.{Figures}
 use Rattle.method.specs.Figures.{FiguresFit}
 use Rattle.method.specs.Inflow.{no_inflow, joined_inflow}
 use Rattle.table.specs.Tables.{TableValues}
-use Rattle.record.specs.declared.Observation.{Observation}
 use Rattle.walk.specs.Space.{Held}
 use Rattle.network.specs.Step.{network_down, network_cell, network_outflow, new_figures, network_numbers}
 use Rattle.answer_space.specs.Places.{figures_at}
@@ -23,7 +23,7 @@ opening inlet k r n = cond (eqb n k) (row r) (inlet n)
 -- what each element has of its own and its old figures by lead and element, observations by element; rows of w places, the first lead of a
 -- row at `from`; the elements whose figures are kept, and their rows
 module _
-    (t : TableValues) (own : ℕ → ℕ → Figures) (o : ℕ → Observation) (old : ℕ → ℕ → Figures) (w from : ℕ) (Kept : ℕ → Type 0)
+    (t : TableValues) (own : ℕ → ℕ → Figures) (o : ℕ → (Option RatedReading)) (old : ℕ → ℕ → Figures) (w from : ℕ) (Kept : ℕ → Type 0)
     (at : ℕ → ℕ) where
   -- what stands in a row at a lead
   abbrev pub row_at : ℕ → List ℕ → ℕ → Figures

@@ -1,14 +1,13 @@
 -- Serves the code: what the code of one element's leads relies on, and what it has worked out.
-use Rattle.std.specs.Prelude.{ℕ, suc, ◌+◌, ◌*◌, ◌≤◌, ◌<◌, false, List, ◌⊎◌, ◌≢◌, ◌≡◌, length}
+use Prim.{Unit}
+use Rattle.refusal.specs.declared.Refusal.{Refusal}
+use Rattle.refusal.specs.Answers.{answer_of}
+use Rattle.std.specs.Prelude.{ℕ, suc, ◌+◌, ◌*◌, ◌≤◌, ◌<◌, false, List, ◌⊎◌, ◌≢◌, ◌≡◌, length, Result, Ok, None}
 use Rattle.sizes.specs.Sizes.{most_leads}
-use Rattle.refusal.specs.declared.Verdict.{Verdict}
-use Rattle.refusal.specs.declared.Verdict.TheVariants.{Accepted}
-use Rattle.refusal.specs.Verdicts.{verdict_answer}
 use Rattle.units.specs.Ceiling.{some_passes, under_ceiling}
 use Rattle.method.specs.declared.Figures.{Figures}
 use Rattle.method.specs.Figures.{FiguresFit}
 use Rattle.method.specs.Inflow.{joined_inflow, old_and_new_outflow}
-use Rattle.record.specs.declared.Observation.TheVariants.{Nothing}
 use Rattle.answer_space.specs.Places.{figures_at, most_sum_before, FiguresBelow}
 use Rattle.one_lead.specs.declared.ElementInput.{ElementInput}
 use Rattle.one_lead.specs.Worked.{InputInRange}
@@ -28,7 +27,7 @@ pub record LeadPlaces (here below leads : ℕ) (space : List ℕ) : Type 0 where
 
 pub record LeadsReady (c : ElementInput) (first : Figures) (here below leads : ℕ) (space : List ℕ) : Type 0 where
   pub in_range : InputInRange c
-  pub nothing : c.observation ≡ Nothing
+  pub nothing : c.observation ≡ None
   pub fits : FiguresFit first
   pub places : LeadPlaces here below leads space
 
@@ -60,6 +59,6 @@ pub record LeadsDone (c : ElementInput) (first : Figures) (here below m : ℕ) (
       → figures_at after p ≡ figures_at before p
 
 -- all leads of the element, or 16
-pub record ElementWorked (r : Verdict) (c : ElementInput) (first : Figures) (here below leads : ℕ) (before after : List ℕ) : Type 0 where
-  pub verdict : verdict_answer r ≡ under_ceiling (numbers_after c first (drained_at before here) leads) tt
-  pub done : r ≡ Accepted → LeadsDone c first here below leads before after
+pub record ElementWorked (r : Result Unit Refusal) (c : ElementInput) (first : Figures) (here below leads : ℕ) (before after : List ℕ) : Type 0 where
+  pub verdict : answer_of r ≡ under_ceiling (numbers_after c first (drained_at before here) leads) tt
+  pub done : r ≡ (Ok tt) → LeadsDone c first here below leads before after

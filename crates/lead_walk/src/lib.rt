@@ -6,10 +6,10 @@ ghost use Rattle.elements.specs.Kinds.{dam};
 ghost use Rattle.one_lead.specs.Worked.{tank_input};
 ghost use Rattle.lead_walk.specs.Worked.{LeadsReady, TankReady, LeadsDone, ElementWorked};
 
-use method::{Figures, FiguresAnswer};
+use rating::RatedReading;
+use method::Figures;
 use one_lead::{ElementInput, Lead, hold_lead, tank_lead, work_lead};
-use record::Observation;
-use refusal::{Refusal, Verdict};
+use refusal::Refusal;
 
 // All leads of an element that stores water, from its figures before the first: its own places and those of the element below begin at
 // `here` and `below`. 16 where a number passes the ceiling.
@@ -20,7 +20,7 @@ fn store_element(
     below: usize,
     leads: usize,
     space: &mut [u64],
-) -> Verdict
+) -> Result<(), Refusal>
     requires { LeadsReady input first here below leads space.old × (input.element.kind ≢ dam) }
     ensures { ElementWorked result input first here below leads space.old space.new }
 {
@@ -32,12 +32,10 @@ fn store_element(
             here: here + k,
             below: below + k,
         };
-        let FiguresAnswer::Accepted(new) = work_lead(input, lead, old, &mut *space) else {
-            return Verdict::Refused(Refusal::AboveCeiling);
-        };
+        let new = work_lead(input, lead, old, &mut *space)?;
         old = new;
     }
-    Verdict::Accepted
+    Ok(())
 }
 
 // All leads of a dam: it lets out the same at each.
@@ -66,14 +64,14 @@ pub fn work_element(
     below: usize,
     leads: usize,
     space: &mut [u64],
-) -> Verdict
+) -> Result<(), Refusal>
     requires { LeadsReady input first here below leads space.old }
     ensures { ElementWorked result input first here below leads space.old space.new }
 {
     let element = input.element;
     if element.kind == elements::DAM {
         hold_dam(input, first, here, below, leads, space);
-        return Verdict::Accepted;
+        return Ok(());
     }
     store_element(input, first, here, below, leads, space)
 }
@@ -82,19 +80,19 @@ pub fn work_element(
 pub fn store_tank(
     noise: u64,
     weight: u64,
-    observation: Observation,
+    observation: Option<RatedReading>,
     first: Figures,
     here: usize,
     below: usize,
     leads: usize,
     space: &mut [u64],
-) -> Verdict
+) -> Result<(), Refusal>
     requires { TankReady (tank_input noise weight observation) first here below leads space.old }
     ensures { ElementWorked result (tank_input noise weight observation) first here below leads space.old space.new }
 {
     let mut old = first;
     for k in 0..leads {
-        let FiguresAnswer::Accepted(new) = tank_lead(
+        let new = tank_lead(
             noise,
             weight,
             observation,
@@ -102,10 +100,8 @@ pub fn store_tank(
             below + k,
             old,
             &mut *space,
-        ) else {
-            return Verdict::Refused(Refusal::AboveCeiling);
-        };
+        )?;
         old = new;
     }
-    Verdict::Accepted
+    Ok(())
 }

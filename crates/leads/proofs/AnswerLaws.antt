@@ -1,4 +1,6 @@
 -- The answer of a forecast: the leads that were worked out, and rules 15 and 16.
+use Prim.{Unit}
+use Rattle.std.specs.Prelude.{Result, Ok, Err}
 use Prim.Native.Nat.{ℕ, ◌+◌, ◌*◌, ◌-◌, ◌≤◌, ◌<◌, min}
 use mathlib.Core.Bool.{Bool, true, false}
 use mathlib.Core.List.{List, ◌++◌}
@@ -11,8 +13,6 @@ use Rattle.sizes.specs.Sizes.{most_elements, most_leads, answer_numbers}
 use Rattle.refusal.specs.Answers.{accepted, refused}
 use Rattle.refusal.specs.declared.Refusal.{Refusal}
 use Rattle.refusal.specs.declared.Refusal.TheVariants.{AnswerSpace, AboveCeiling}
-use Rattle.refusal.specs.declared.Verdict.{Verdict}
-use Rattle.refusal.specs.declared.Verdict.TheVariants.{Accepted, Refused}
 use Rattle.refusal.proofs.RuleLaws.{not-both}
 use Rattle.method.specs.declared.Figures.{Figures}
 use Rattle.table.specs.declared.Counts.{Counts}
@@ -25,8 +25,6 @@ use Rattle.state.specs.States.{State}
 use Rattle.state.specs.Rules.{state_fits}
 use Rattle.state.proofs.BoundsLaws.{state-bounds}
 use Rattle.element_weights.specs.Weights.{WeightsHeld}
-use Rattle.network.specs.declared.ForecastAnswer.{ForecastAnswer}
-use Rattle.network.specs.declared.ForecastAnswer.TheVariants as of-forecast
 use Rattle.network.specs.Forecast.{lead_figures, lead_numbers}
 use Rattle.network.specs.Answer.{forecast_figures, space_fits, leads_answer}
 use Rattle.network.specs.Lent.{layout, Lent}
@@ -151,14 +149,14 @@ layout-size t s =
 pub too_small :
     (t : TableValues) (s : State) (out : List ℕ)
     → length out < answer_size t
-    → Lent (of-forecast.Refused AnswerSpace) out (leads_answer t s (length out)) out
+    → Lent (Err AnswerSpace) out (leads_answer t s (length out)) out
 unfolding leads_answer space_fits
 too_small t s = space-refused (answer_size t) (lead_numbers t s t.leads) (forecast_figures t s)
 
 module _
-    (t : TableValues) (s : State) (out : List ℕ) (fits : answer_size t ≤ length out) {v : Verdict} {space : List ℕ}
+    (t : TableValues) (s : State) (out : List ℕ) (fits : answer_size t ≤ length out) {v : Result Unit Refusal} {space : List ℕ}
     (h : LeadsWorked v space t s) where
-  pub not-copied : {j : Refusal} → v ≡ Refused j → Copied false t s out out
+  pub not-copied : {j : Refusal} → v ≡ Err j → Copied false t s out out
   unfolding leads_answer space_fits counted_by
   not-copied e = none-copied (answer_size t) (lead_numbers t s t.leads) (forecast_figures t s) out fits h.verdict e
 
@@ -168,7 +166,7 @@ module _
       → from ≡ 4 * (t.leads + 1)
       → needed ≡ answer_size t
       → after ≡ paste out 0 (take (length space - from) (drop from space)) needed
-      → v ≡ Accepted
+      → v ≡ (Ok tt)
       → Copied true t s out after
   unfolding leads_answer space_fits counted_by
   copied room {from} start size a e =
@@ -178,7 +176,7 @@ module _
 
 -- the answer by what was copied
 pub lent_by :
-    (t : TableValues) (s : State) (under : Bool) {out after : List ℕ} {r : ForecastAnswer} {needed : ℕ}
+    (t : TableValues) (s : State) (under : Bool) {out after : List ℕ} {r : Result ℕ Refusal} {needed : ℕ}
     → Copied under t s out after
     → needed ≡ answer_size t
     → r ≡ counted_by under needed
@@ -189,20 +187,20 @@ lent_by t s under h size c = rw (c, size) h
 
 -- the first numbers of the space after the call are those that were worked in
 module _
-    (t : TableValues) (s : State) (b : AcceptedBounds t) {v : Verdict} (worked rest : List ℕ) (long : length worked ≡ space_size t)
+    (t : TableValues) (s : State) (b : AcceptedBounds t) {v : Result Unit Refusal} (worked rest : List ℕ) (long : length worked ≡ space_size t)
     (h : LeadsWorked v worked t s) where
   fits : answer_size t ≤ answer_numbers
   fits = answer-most _ _ b.elements_most b.leads_most
 
-  answer-accepted : v ≡ Accepted → leads_answer t s answer_numbers ≡ accepted (forecast_figures t s)
+  answer-accepted : v ≡ (Ok tt) → leads_answer t s answer_numbers ≡ accepted (forecast_figures t s)
   unfolding leads_answer space_fits
   answer-accepted e = space-accepted (answer_size t) _ _ answer_numbers fits h.verdict e
 
-  answer-refused : {j : Refusal} → v ≡ Refused j → leads_answer t s answer_numbers ≡ refused 16
+  answer-refused : {j : Refusal} → v ≡ Err j → leads_answer t s answer_numbers ≡ refused 16
   unfolding leads_answer space_fits
   answer-refused e = ceiling-refused (answer_size t) _ _ answer_numbers fits h.verdict e
 
-  pub held-accepted : {count : ℕ} → count ≡ answer_size t → v ≡ Accepted → ForecastHeld (of-forecast.Accepted count) (worked ++ rest) t s
+  pub held-accepted : {count : ℕ} → count ≡ answer_size t → v ≡ (Ok tt) → ForecastHeld (Ok count) (worked ++ rest) t s
   held-accepted size e =
       record {
         count = ap accepted size ∙ written-accepted (layout-size t s) (answer-accepted e);
@@ -222,7 +220,7 @@ module _
           ∙ take-append-le (answer_size t) (drop (4 * (t.leads + 1)) worked) rest
           (omega (arith, long, space-is t, length-drop (4 * (t.leads + 1)) worked))
 
-  pub held-refused : {j : Refusal} → v ≡ Refused j → ForecastHeld (of-forecast.Refused AboveCeiling) (worked ++ rest) t s
+  pub held-refused : {j : Refusal} → v ≡ Err j → ForecastHeld (Err AboveCeiling) (worked ++ rest) t s
   held-refused e =
       record {
         count = written-refused (answer-refused e);

@@ -1,7 +1,8 @@
 -- Serves the code: what a forecast relies on, and what it leaves in lent space.
-use Rattle.std.specs.Prelude.{ℕ, ◌+◌, ◌*◌, ◌≤◌, Bool, true, false, List, ◌≡◌, length, take, drop}
+use Rattle.refusal.specs.declared.Refusal.{Refusal}
+use Rattle.std.specs.Prelude.{ℕ, ◌+◌, ◌*◌, ◌≤◌, Bool, true, false, List, ◌≡◌, length, take, drop, Result, Ok, Err}
 use Rattle.sizes.specs.Sizes.{answer_numbers}
-use Rattle.refusal.specs.Answers.{accepted}
+use Rattle.refusal.specs.Answers.{accepted, answer_of}
 use Rattle.refusal.specs.declared.Refusal.TheVariants.{AboveCeiling}
 use Rattle.method.specs.declared.Figures.{Figures}
 use Rattle.table.specs.Tables.{TableValues}
@@ -9,10 +10,8 @@ use Rattle.table.specs.Bounds.{AcceptedTable}
 use Rattle.table.specs.InUse.{table_in}
 use Rattle.state.specs.States.{State}
 use Rattle.state.specs.Bounds.{StateBounds}
-use Rattle.network.specs.declared.ForecastAnswer.{ForecastAnswer}
-use Rattle.network.specs.declared.ForecastAnswer.TheVariants.{Accepted, Refused}
 use Rattle.network.specs.Answer.{leads_answer}
-use Rattle.network.specs.Lent.{layout, count_answer, count_written, Lent}
+use Rattle.network.specs.Lent.{layout, count_written, Lent}
 use Rattle.network_leads.specs.Worked.{space_size}
 
 -- the numbers of the answer
@@ -35,9 +34,9 @@ pub record CopyReady (bytes : List ℕ) (n L T : ℕ) (s : State) (own room lent
   pub answer : answer_size (table_in bytes) ≤ lent
 
 -- the count of numbers where none passes the ceiling, or 16
-unfoldable pub counted_by : Bool → ℕ → ForecastAnswer
-counted_by true count = Accepted count
-counted_by false count = Refused AboveCeiling
+unfoldable pub counted_by : Bool → ℕ → Result ℕ Refusal
+counted_by true count = Ok count
+counted_by false count = Err AboveCeiling
 
 -- whether no number passes, and the lent numbers, into which the answer is copied where none does
 abbrev pub Copied : Bool → TableValues → State → List ℕ → List ℕ → Type 0
@@ -45,8 +44,8 @@ Copied under t s before after = Lent (counted_by under (answer_size t)) after (l
 
 -- a forecast in lent space, in which the answer begins after the places of what leaves the river: the count, and the answer's numbers
 -- where it is accepted; what the space then holds elsewhere, and what it holds where it is refused, is left open
-pub record ForecastHeld (r : ForecastAnswer) (space : List ℕ) (t : TableValues) (s : State) : Type 0 where
-  pub count : count_answer r ≡ count_written (leads_answer t s answer_numbers)
+pub record ForecastHeld (r : Result ℕ Refusal) (space : List ℕ) (t : TableValues) (s : State) : Type 0 where
+  pub count : answer_of r ≡ count_written (leads_answer t s answer_numbers)
   pub numbers :
       (fs : List Figures)
       → leads_answer t s answer_numbers ≡ accepted fs

@@ -14,13 +14,9 @@ ghost use Rattle.leads.specs.Held.{CopyReady, counted_by, Copied, ForecastHeld};
 
 use answer_space::{clear, copy_numbers};
 use element_weights::put_weights;
-use network::ForecastAnswer;
 use network_leads::work_leads;
-use refusal::{Refusal, Verdict};
-use sizes::{
-    FORECAST_SPACE, MEDIUM_FORECAST_SPACE, MOST_ELEMENTS, SMALL_FORECAST_ELEMENTS,
-    SMALL_FORECAST_SPACE, STATE_NUMBERS, TINY_FORECAST_ELEMENTS, TINY_FORECAST_SPACE,
-};
+use refusal::Refusal;
+use sizes::{FORECAST_SPACE, MEDIUM_FORECAST_SPACE, MOST_ELEMENTS, SMALL_FORECAST_ELEMENTS, SMALL_FORECAST_SPACE, STATE_NUMBERS, TINY_FORECAST_ELEMENTS, TINY_FORECAST_SPACE};
 use table::Counts;
 
 // How many numbers the answer has: four for each element at lead 0 and at each lead.
@@ -59,7 +55,7 @@ pub fn forecast_in(
     state: &[u64; STATE_NUMBERS],
     space: &mut [u64],
     again: bool,
-) -> ForecastAnswer
+) -> Result<usize, Refusal>
     requires { Weighed table.now counts weights.now × ((state_fits (table_in table.now) state.now ≡ true) × (length space.old ≡ forecast_space)) }
     ensures { ForecastHeld result space.new (table_in table.now) state.now }
 {
@@ -70,11 +66,8 @@ pub fn forecast_in(
     let room = space_numbers(counts.elements, counts.extra, counts.leads);
     let part = &mut space[..room];
     clear(&mut *part);
-    let Verdict::Accepted = work_leads(table, counts.elements, counts.leads, weights, state, part)
-    else {
-        return ForecastAnswer::Refused(Refusal::AboveCeiling);
-    };
-    ForecastAnswer::Accepted(needed)
+    work_leads(table, counts.elements, counts.leads, weights, state, part)?;
+    Ok(needed)
 }
 
 // The leads worked out, by weights that are worked out first, in a space that has room for them and nothing in it, and copied out of it where
@@ -95,7 +88,7 @@ fn copy_out(
     let needed = answer_numbers(n, leads);
     let from = 4 * (leads + 1);
     put_weights(table, step, n, &mut *own);
-    let Verdict::Accepted = work_leads(table, n, leads, &*own, state, &mut *space) else {
+    let Ok(()) = work_leads(table, n, leads, &*own, state, &mut *space) else {
         return false;
     };
     let worked = &space[..];
@@ -174,13 +167,13 @@ fn in_large(
 }
 
 // The count of numbers that were worked out, or 16 where one passes the ceiling.
-fn counted_by(under: bool, count: usize) -> ForecastAnswer
+fn counted_by(under: bool, count: usize) -> Result<usize, Refusal>
     ensures { result ≡ counted_by under count }
 {
     if under {
-        ForecastAnswer::Accepted(count)
+        Ok(count)
     } else {
-        ForecastAnswer::Refused(Refusal::AboveCeiling)
+        Err(Refusal::AboveCeiling)
     }
 }
 
@@ -192,7 +185,7 @@ pub fn forecast_on(
     counts: Counts,
     state: &[u64; STATE_NUMBERS],
     out: &mut [u64],
-) -> ForecastAnswer
+) -> Result<usize, Refusal>
     requires { CountedPlaces table.now counts × (state_fits (table_in table.now) state.now ≡ true) }
     ensures { Lent result out.new (leads_answer (table_in table.now) state.now (length out.old)) out.old }
 {
@@ -201,7 +194,7 @@ pub fn forecast_on(
     let step = counts.step;
     let needed = answer_numbers(n, leads);
     if out.len() < needed {
-        return ForecastAnswer::Refused(Refusal::AnswerSpace);
+        return Err(Refusal::AnswerSpace);
     }
     let room = space_numbers(n, counts.extra, leads);
     if room <= TINY_FORECAST_SPACE {

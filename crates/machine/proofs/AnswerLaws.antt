@@ -1,4 +1,5 @@
 -- Laws of the table and of a record, answered where they lie in the program's buffers.
+use Rattle.std.specs.Prelude.{Ok, Err}
 use Prim.Native.Nat.{ℕ, zero, suc, ◌+◌, ◌-◌, ◌≤◌, ◌<◌}
 use mathlib.Core.Bool.{true, false}
 use mathlib.Core.List.{List, [], ◌∷◌}
@@ -10,7 +11,6 @@ use lib.Seq.{length-take-le}
 use Rattle.sizes.specs.Sizes.{state_numbers, table_bytes}
 use Rattle.refusal.specs.Refusals.{number}
 use Rattle.refusal.specs.declared.Refusal.{Refusal}
-use Rattle.refusal.specs.declared.Verdict.TheVariants.{Accepted, Refused}
 use Rattle.table.specs.InUse.{table_in}
 use Rattle.state.specs.States.{State}
 use Rattle.state.proofs.AnswerLaws.{answered-next, answered-not}
@@ -95,18 +95,18 @@ module _
     (p : Progress) (input table weights : List ℕ) (state : State) (out : List ℕ)
     (f : BuffersFit p input table weights state out) (d : TableDue p) (t : TableStart) (later : List ℕ) (after : State)
     (o : StartedOnInput (unused_in p input) state t later after) (full : length later ≡ length weights) where
-  short : t.verdict ≡ Accepted → t.length ≤ table_bytes
+  short : t.verdict ≡ (Ok tt) → t.length ≤ table_bytes
   short v = started-input-short _ _ _ _ _ f.sizes.state_whole o v
 
   whole : length (take t.length (unused_in p input)) ≡ t.length
   whole = length-take-le t.length (unused_in p input) o.within
 
   -- there is room for an accepted table
-  pub table-room : t.verdict ≡ Accepted → 0 + length (take t.length (unused_in p input)) ≤ length table
+  pub table-room : t.verdict ≡ (Ok tt) → 0 + length (take t.length (unused_in p input)) ≤ length table
   table-room v = omega (arith, short v, whole, f.sizes.table_whole)
 
   pub table-accepted :
-      t.verdict ≡ Accepted
+      t.verdict ≡ (Ok tt)
       → (kept : List ℕ) (end : ℕ)
       → Put table 0 (take t.length (unused_in p input)) kept end
       → length kept ≡ length table
@@ -139,7 +139,7 @@ module _
 
   pub table-refused :
       {k : Refusal} (a : TextAnswer) (text : List ℕ)
-      → t.verdict ≡ Refused k
+      → t.verdict ≡ Err k
       → TextAnswered a out p.at text (refusal_line 0 (number k)) (leb (number k) 10)
       → length text ≡ length out
       → HeldAnswered (held_in p input table state out) (after_refusal p a.end) input table later after text

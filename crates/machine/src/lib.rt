@@ -6,11 +6,7 @@ ghost use Rattle.machine.specs.Buffers.{BuffersFit, WorkingSpace, TableDue, Reco
 ghost use Rattle.machine.specs.Turns.{HeldAnswered, Turned};
 
 use input_parts::{record_length, wants_more};
-use progress::{
-    Progress, after_record, after_refusal, after_stop, after_table, after_write, has_ended,
-    moved_front, text_due,
-};
-use refusal::Verdict;
+use progress::{Progress, after_record, after_refusal, after_stop, after_table, after_write, has_ended, moved_front, text_due};
 use refusal_answer::answer_refusal;
 use report::answer_record;
 use sizes::STATE_NUMBERS;
@@ -53,11 +49,11 @@ fn table_answered(
     let counts = started.counts;
     let size = started.length;
     match verdict {
-        Verdict::Accepted => {
+        Ok(()) => {
             put_bytes(&mut *table, 0, &unused[..size]);
             after_table(p, counts, size)
         }
-        Verdict::Refused(refusal) => {
+        Err(refusal) => {
             let answer = answer_refusal(refusal, 0, &mut *out, p.at);
             after_refusal(p, answer.end)
         }

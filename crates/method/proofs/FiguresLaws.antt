@@ -1,4 +1,6 @@
 -- Figures under the ceiling: as estimates, of an answer, and made of numbers that were judged.
+use Rattle.refusal.specs.declared.Refusal.{Refusal}
+use Rattle.std.specs.Prelude.{Result, Ok}
 use Prim.Native.Nat.{◌≤◌}
 use mathlib.Core.Path.{◌≡◌, subst}
 use borrow.Author.Tests.{le-ltb}
@@ -10,8 +12,6 @@ use Rattle.units.proofs.UnderLaws.{Under, first_under}
 use Rattle.weighting.specs.declared.Estimate.{Estimate}
 use Rattle.weighting.specs.Estimates.{EstimateFits}
 use Rattle.method.specs.declared.Figures.{Figures}
-use Rattle.method.specs.declared.FiguresAnswer.{FiguresAnswer}
-use Rattle.method.specs.declared.FiguresAnswer.TheVariants.{Accepted}
 use Rattle.method.specs.Figures.{discharge, variance, figures, figure_numbers, FiguresFit, AnsweredFiguresFit}
 
 pub discharge-fits : {f : Figures} → FiguresFit f → EstimateFits (discharge f)
@@ -20,7 +20,7 @@ discharge-fits h = record { value = h.discharge; margin = h.discharge_margin }
 pub variance-fits : {f : Figures} → FiguresFit f → EstimateFits (variance f)
 variance-fits h = record { value = h.variance; margin = h.variance_margin }
 
-pub accepted-fits : {r : FiguresAnswer} {x : Figures} → r ≡ Accepted x → AnsweredFiguresFit r → FiguresFit x
+pub accepted-fits : {r : Result Figures Refusal} {x : Figures} → r ≡ Ok x → AnsweredFiguresFit r → FiguresFit x
 unfolding AnsweredFiguresFit
 accepted-fits e h = subst AnsweredFiguresFit e h
 

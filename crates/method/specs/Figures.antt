@@ -1,14 +1,13 @@
 -- The four figures of an element or of an inflow: discharge and variance, each with its margin.
+use Rattle.refusal.specs.declared.Refusal.{Refusal}
 use Prim.{Unit}
-use Rattle.std.specs.Prelude.{ℕ, ◌≤◌, List, [], ◌∷◌}
+use Rattle.std.specs.Prelude.{ℕ, ◌≤◌, List, [], ◌∷◌, Result, Ok, Err}
 use Rattle.refusal.specs.Refusals.{number}
-use Rattle.refusal.specs.Answers.{Answer, accepted, refused}
+use Rattle.refusal.specs.Answers.{Answer, accepted, refused, answer_of}
 use Rattle.units.specs.Units.{C, grains, thousandths}
 use Rattle.weighting.specs.declared.Estimate.{Estimate}
 use Rattle.weighting.specs.Estimates.{estimate}
 use Rattle.method.specs.declared.Figures.{Figures}
-use Rattle.method.specs.declared.FiguresAnswer.{FiguresAnswer}
-use Rattle.method.specs.declared.FiguresAnswer.TheVariants.{Accepted, Refused}
 
 abbrev pub discharge : Figures → Estimate
 discharge f = estimate f.discharge.0 f.discharge_margin.0
@@ -29,11 +28,6 @@ figures q v =
 abbrev pub figure_numbers : Figures → List ℕ
 figure_numbers f = f.discharge.0 ∷ f.discharge_margin.0 ∷ f.variance.0 ∷ f.variance_margin.0 ∷ []
 
--- the number and the values of each case of an answer
-abbrev pub figures_answer : FiguresAnswer → Answer Figures
-figures_answer (Accepted f) = accepted f
-figures_answer (Refused r) = refused (number r)
-
 -- what callers may rely on: no number passes the ceiling
 pub record FiguresFit (f : Figures) : Type 0 where
   pub discharge : f.discharge.0 ≤ C
@@ -41,6 +35,6 @@ pub record FiguresFit (f : Figures) : Type 0 where
   pub variance : f.variance.0 ≤ C
   pub variance_margin : f.variance_margin.0 ≤ C
 
-unfoldable pub AnsweredFiguresFit : FiguresAnswer → Type 0
-AnsweredFiguresFit (Accepted f) = FiguresFit f
-AnsweredFiguresFit (Refused r) = Unit
+unfoldable pub AnsweredFiguresFit : Result Figures Refusal → Type 0
+AnsweredFiguresFit (Ok f) = FiguresFit f
+AnsweredFiguresFit (Err r) = Unit

@@ -2,11 +2,12 @@
 #![tactic(auto)]
 
 ghost use Rattle.std.specs.Prelude.{◌≡◌};
-ghost use Rattle.method.specs.Figures.{discharge, variance, figures, figures_answer, AnsweredFiguresFit};
+ghost use Rattle.refusal.specs.Answers.{answer_of};
+ghost use Rattle.method.specs.Figures.{discharge, variance, figures, AnsweredFiguresFit};
 ghost use Rattle.method.specs.Inflow.{inflow_answer};
 
 use refusal::Refusal;
-use units::{Discharge, DischargeAnswer, Variance, VarianceAnswer};
+use units::{Discharge, Variance};
 use weighting::Estimate;
 
 // What an element holds or takes in: discharge and variance, each with its margin.
@@ -19,30 +20,16 @@ pub struct Figures {
     pub variance_margin: Variance,
 }
 
-#[derive(Clone, Copy)]
-pub enum FiguresAnswer {
-    Accepted(Figures),
-    Refused(Refusal),
-}
-
 impl Figures {
     // The figures of a discharge and a variance, or the refusal of a number that passes the ceiling.
-    pub fn new(q: Estimate, v: Estimate) -> FiguresAnswer
-        ensures { (figures_answer result ≡ inflow_answer (figures q v)) × AnsweredFiguresFit result }
+    pub fn new(q: Estimate, v: Estimate) -> Result<Figures, Refusal>
+        ensures { (answer_of result ≡ inflow_answer (figures q v)) × AnsweredFiguresFit result }
     {
-        let DischargeAnswer::Accepted(discharge) = Discharge::new(q.value) else {
-            return FiguresAnswer::Refused(Refusal::AboveCeiling);
-        };
-        let DischargeAnswer::Accepted(discharge_margin) = Discharge::new(q.margin) else {
-            return FiguresAnswer::Refused(Refusal::AboveCeiling);
-        };
-        let VarianceAnswer::Accepted(variance) = Variance::new(v.value) else {
-            return FiguresAnswer::Refused(Refusal::AboveCeiling);
-        };
-        let VarianceAnswer::Accepted(variance_margin) = Variance::new(v.margin) else {
-            return FiguresAnswer::Refused(Refusal::AboveCeiling);
-        };
-        FiguresAnswer::Accepted(Figures {
+        let discharge = Discharge::new(q.value)?;
+        let discharge_margin = Discharge::new(q.margin)?;
+        let variance = Variance::new(v.value)?;
+        let variance_margin = Variance::new(v.margin)?;
+        Ok(Figures {
             discharge,
             discharge_margin,
             variance,

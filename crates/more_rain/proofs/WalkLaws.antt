@@ -1,5 +1,7 @@
 -- Two walks over one network by the same observations: where each element's own and old figures are at least as much water in the second
 -- walk, its new figures are too.
+use Rattle.rating.specs.declared.RatedReading.{RatedReading}
+use Rattle.std.specs.Prelude.{Option, Some, None}
 use Prim.Native.Nat.{ℕ, ◌<◌}
 use mathlib.Core.Path.{◌≡◌}
 use Rattle.method.specs.declared.Figures.{Figures}
@@ -9,21 +11,19 @@ use Rattle.method.proofs.OrderLaws.{as-much, more-joined, more-outflow, more-rea
 use Rattle.elements.specs.declared.Element.{Element}
 use Rattle.elements.proofs.KindLaws.{kind-both}
 use Rattle.table.specs.Tables.{TableValues}
-use Rattle.record.specs.declared.Observation.{Observation}
-use Rattle.record.specs.declared.Observation.TheVariants.{Nothing, Rated}
 use Rattle.walk.specs.Walk.{new_cell, outflow}
 use Rattle.walk.proofs.WalkLaws.{new-cell-kept}
 use Rattle.element_step.specs.ElementStep.{corrected_by, moved, stored, element_step}
 use Rattle.network.specs.Step.{weight_of, network_down, network_cell, network_outflow, above_of, new_figures}
 
-more-corrected-by : (o : Observation) {x x* : Figures} → AtLeast x x* → AtLeast (corrected_by o x) (corrected_by o x*)
+more-corrected-by : (o : Option RatedReading) {x x* : Figures} → AtLeast x x* → AtLeast (corrected_by o x) (corrected_by o x*)
 unfolding corrected_by
-more-corrected-by Nothing p = p
-more-corrected-by (Rated z noise) p = more-corrected noise.0 z.0 p
+more-corrected-by None p = p
+more-corrected-by (Some r) p = more-corrected r.noise.0 r.discharge.0 p
 
 -- an element that stores water
 more-stored :
-    (H : ℕ) (e : Element) {o o* : Observation} {inflow inflow* old old* : Figures}
+    (H : ℕ) (e : Element) {o o* : Option RatedReading} {inflow inflow* old old* : Figures}
     → o ≡ o*
     → AtLeast inflow inflow*
     → AtLeast old old*
@@ -32,7 +32,7 @@ unfolding stored moved
 more-stored H e {o* = o*} same p q = rw (same) (more-corrected-by o* (more-routed H e.system_noise.0 p q))
 
 module _
-    (t : TableValues) (own own* : ℕ → Figures) (o o* : ℕ → Observation) (old old* : ℕ → Figures)
+    (t : TableValues) (own own* : ℕ → Figures) (o o* : ℕ → (Option RatedReading)) (old old* : ℕ → Figures)
     (more-own : (i : ℕ) → i < t.elements → AtLeast (own i) (own* i))
     (same_seen : (i : ℕ) → i < t.elements → o i ≡ o* i)
     (more-old : (i : ℕ) → i < t.elements → AtLeast (old i) (old* i)) where

@@ -1,4 +1,5 @@
 -- Laws of an answer that is written into lent space: rules 15 and 16, and the numbers copied.
+use Rattle.std.specs.Prelude.{Result, Ok, Err}
 use Prim.{Unit}
 use Prim.Native.Nat.{ℕ, ◌≤◌, ◌<◌}
 use mathlib.Core.List.{List}
@@ -9,49 +10,44 @@ use lib.Dec.{leb}
 use lib.ListN.{length, take}
 use lib.Seq.{paste}
 use Rattle.refusal.specs.Refusals.{number}
-use Rattle.refusal.specs.Answers.{Answer, accepted, refused, rule}
-use Rattle.refusal.specs.Verdicts.{verdict_answer}
+use Rattle.refusal.specs.Answers.{Answer, accepted, refused, rule, answer_of}
 use Rattle.refusal.specs.declared.Refusal.{Refusal}
 use Rattle.refusal.specs.declared.Refusal.TheVariants.{AnswerSpace, AboveCeiling}
-use Rattle.refusal.specs.declared.Verdict.{Verdict}
-use Rattle.refusal.specs.declared.Verdict.TheVariants.{Accepted, Refused}
 use Rattle.units.specs.Ceiling.{under_ceiling}
 use Rattle.units.proofs.CeilingLaws.{same-accepted, same-refused}
 use Rattle.method.specs.declared.Figures.{Figures}
 use Rattle.table.specs.Rules.{table_rules}
 use Rattle.table.proofs.TableLaws.{rules-accepted, rules-refused}
-use Rattle.network.specs.declared.ForecastAnswer.{ForecastAnswer}
-use Rattle.network.specs.declared.ForecastAnswer.TheVariants as of-forecast
 use Rattle.network.specs.Lent.{layout, count_written, lent_after, Lent}
 
 -- a refusal writes nothing
 pub lent-refused :
     (out : List ℕ) (answer : Answer (List Figures)) (k : Refusal)
     → answer ≡ refused (number k)
-    → Lent (of-forecast.Refused k) out answer out
+    → Lent (Err k) out answer out
 unfolding count_written lent_after
 lent-refused out answer k e = rw e (record { count = refl; numbers = refl })
 
 -- an answer known by another name
 pub lent-as :
-    {r : ForecastAnswer} {after before : List ℕ} {a b : Answer (List Figures)} → a ≡ b → Lent r after b before → Lent r after a before
+    {r : Result ℕ Refusal} {after before : List ℕ} {a b : Answer (List Figures)} → a ≡ b → Lent r after b before → Lent r after a before
 lent-as {r} {after} {before} {a} {b} e h = subst (λ (x : Answer (List Figures)). Lent r after x before) (sym e) h
 
 -- an answer on the bytes of an accepted table, and of a refused one
 module _ (bytes : List ℕ) (rest : Answer (List Figures)) where
   pub lent-table :
-      {r : ForecastAnswer} {after before : List ℕ}
+      {r : Result ℕ Refusal} {after before : List ℕ}
       → table_rules {A = Unit} bytes (accepted tt) ≡ accepted tt
       → Lent r after rest before
       → Lent r after (table_rules bytes rest) before
   lent-table k h = lent-as (rules-accepted bytes rest k) h
 
   pub lent-table-refused :
-      (before : List ℕ) (v : Verdict) (k : Refusal)
-      → verdict_answer v ≡ table_rules {A = Unit} bytes (accepted tt)
-      → v ≡ Refused k
-      → Lent (of-forecast.Refused k) before (table_rules bytes rest) before
-  lent-table-refused before v k h e = lent-refused before _ k (rules-refused bytes rest (sym h ∙ ap verdict_answer e))
+      (before : List ℕ) (v : Result Unit Refusal) (k : Refusal)
+      → answer_of v ≡ table_rules {A = Unit} bytes (accepted tt)
+      → v ≡ Err k
+      → Lent (Err k) before (table_rules bytes rest) before
+  lent-table-refused before v k h e = lent-refused before _ k (rules-refused bytes rest (sym h ∙ ap answer_of e))
 
 -- the count of an answer
 pub written-accepted :
@@ -75,7 +71,7 @@ pub figures-lent :
     → needed ≡ size
     → after ≡ paste out 0 part needed
     → count ≡ size
-    → Lent (of-forecast.Accepted count) after answer out
+    → Lent (Ok count) after answer out
 unfolding lent_after
 figures-lent out part {size = size} k long laid is a all =
     record { count = ap accepted all ∙ written-accepted long k; numbers = a ∙ rw (is, k, laid, long, zero-add size) }
@@ -86,20 +82,20 @@ module _ (size : ℕ) (ns : List ℕ) (fs : List Figures) where
   space_answer room = rule 15 (leb size room) (under_ceiling ns fs)
 
   -- 15
-  pub space-refused : (out : List ℕ) → length out < size → Lent (of-forecast.Refused AnswerSpace) out (space_answer (length out)) out
+  pub space-refused : (out : List ℕ) → length out < size → Lent (Err AnswerSpace) out (space_answer (length out)) out
   space-refused out h = lent-refused out (space_answer (length out)) AnswerSpace (rw (lt-leb _ _ h))
 
-  module _ (room : ℕ) (fits : size ≤ room) {v : Verdict} (decided : verdict_answer v ≡ under_ceiling ns tt) where
-    pub space-accepted : v ≡ Accepted → space_answer room ≡ accepted fs
-    space-accepted e = rw (le-leb _ _ fits) (same-accepted tt fs _ (sym (ap verdict_answer e) ∙ decided)).1
+  module _ (room : ℕ) (fits : size ≤ room) {v : Result Unit Refusal} (decided : answer_of v ≡ under_ceiling ns tt) where
+    pub space-accepted : v ≡ (Ok tt) → space_answer room ≡ accepted fs
+    space-accepted e = rw (le-leb _ _ fits) (same-accepted tt fs _ (sym (ap answer_of e) ∙ decided)).1
 
     -- 16
-    pub ceiling-refused : {j : Refusal} → v ≡ Refused j → space_answer room ≡ refused 16
-    ceiling-refused e = rw (le-leb _ _ fits) (same-refused tt fs _ (sym (ap verdict_answer e) ∙ decided))
+    pub ceiling-refused : {j : Refusal} → v ≡ Err j → space_answer room ≡ refused 16
+    ceiling-refused e = rw (le-leb _ _ fits) (same-refused tt fs _ (sym (ap answer_of e) ∙ decided))
 
   -- nothing is written, or the figures are copied
-  module _ (out : List ℕ) (fits : size ≤ length out) {v : Verdict} (decided : verdict_answer v ≡ under_ceiling ns tt) where
-    pub none-copied : {j : Refusal} → v ≡ Refused j → Lent (of-forecast.Refused AboveCeiling) out (space_answer (length out)) out
+  module _ (out : List ℕ) (fits : size ≤ length out) {v : Result Unit Refusal} (decided : answer_of v ≡ under_ceiling ns tt) where
+    pub none-copied : {j : Refusal} → v ≡ Err j → Lent (Err AboveCeiling) out (space_answer (length out)) out
     none-copied e = lent-refused out _ AboveCeiling (ceiling-refused (length out) fits decided e)
 
     pub all-copied :
@@ -108,7 +104,7 @@ module _ (size : ℕ) (ns : List ℕ) (fs : List Figures) where
         → take size part ≡ layout fs
         → needed ≡ size
         → after ≡ paste out 0 part needed
-        → v ≡ Accepted
+        → v ≡ (Ok tt)
         → count ≡ size
-        → Lent (of-forecast.Accepted count) after (space_answer (length out)) out
+        → Lent (Ok count) after (space_answer (length out)) out
     all-copied part long laid is a e all = figures-lent out part (space-accepted (length out) fits decided e) long laid is a all

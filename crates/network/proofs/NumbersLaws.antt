@@ -1,4 +1,6 @@
 -- The numbers of rule 16: of each element and lead, and of all.
+use Rattle.rating.specs.declared.RatedReading.{RatedReading}
+use Rattle.std.specs.Prelude.{Option}
 use Prim.Native.Nat.{ℕ, zero, suc, ◌+◌, ◌<◌}
 use mathlib.Core.List.{List}
 use mathlib.Core.Logic.{⊎_elim}
@@ -9,7 +11,6 @@ use native.Mathlib.Omega.{arith}
 use Rattle.units.proofs.UnderLaws.{Under, none-under, parts-under, both_under}
 use Rattle.method.specs.declared.Figures.{Figures}
 use Rattle.table.specs.Tables.{TableValues}
-use Rattle.record.specs.declared.Observation.{Observation}
 use Rattle.cells.specs.Cells.{cells}
 use Rattle.state.specs.States.{State}
 use Rattle.element_step.specs.ElementStep.{element_numbers}
@@ -17,7 +18,7 @@ use Rattle.network.specs.Step.{weight_of, above_of, new_figures, network_numbers
 use Rattle.network.specs.Forecast.{forecast_own, lead_figures, lead_numbers}
 
 -- of one step or lead
-module _ (t : TableValues) (own : ℕ → Figures) (o : ℕ → Observation) (old : ℕ → Figures) where
+module _ (t : TableValues) (own : ℕ → Figures) (o : ℕ → (Option RatedReading)) (old : ℕ → Figures) where
   abbrev pub cell_numbers : ℕ → List ℕ
   cell_numbers i = element_numbers (weight_of t i) (t.element i) (own i) (o i) (above_of t own o old i) (old i)
 

@@ -1,4 +1,6 @@
 -- The weights of the elements; the state after a step: what its names read.
+use Rattle.rating.specs.declared.RatedReading.{RatedReading}
+use Rattle.std.specs.Prelude.{Option}
 use Prim.Native.Nat.{ℕ, ◌+◌, ◌≤◌, ◌<◌}
 use mathlib.Core.Path.{◌≡◌, refl, ap, ◌∙◌}
 use native.Mathlib.Omega.{arith}
@@ -11,7 +13,6 @@ use Rattle.weighting.proofs.WeightLaws.{weight-most}
 use Rattle.elements.specs.Kinds.{basin, dam}
 use Rattle.elements.proofs.KindLaws.{by-dam, kind-cases}
 use Rattle.table.specs.Tables.{TableValues}
-use Rattle.record.specs.declared.Observation.{Observation}
 use Rattle.record.specs.Records.{Input}
 use Rattle.state.specs.States.{State, ElementState, elements_of, steps_of, cell_figures, cell_rains, place_of, changed}
 use Rattle.cells.specs.Cells.{cells, cell_place}
@@ -28,7 +29,7 @@ weight-of-most t i =
 
 -- a dam lets out what it has of its own
 pub dam-lets-out :
-    (t : TableValues) (own : ℕ → Figures) (o : ℕ → Observation) (old : ℕ → Figures) (i : ℕ)
+    (t : TableValues) (own : ℕ → Figures) (o : ℕ → (Option RatedReading)) (old : ℕ → Figures) (i : ℕ)
     → (t.element i).kind ≡ dam
     → new_figures t own o old i ≡ own i
 unfolding new_figures new_cell network_cell element_step

@@ -1,12 +1,11 @@
 -- Document 01, One step, element 1 to N, and document 02, M-100 and M-103.
-use Rattle.std.specs.Prelude.{ℕ, zero, suc, ◌+◌, List, [], ◌++◌}
+use Rattle.rating.specs.declared.RatedReading.{RatedReading}
+use Rattle.std.specs.Prelude.{ℕ, zero, suc, ◌+◌, List, [], ◌++◌, Option, None}
 use Rattle.weighting.specs.Weight.{weight}
 use Rattle.method.specs.declared.Figures.{Figures}
 use Rattle.method.specs.Inflow.{step_inflow, no_inflow, joined_inflow, old_and_new_outflow}
 use Rattle.elements.specs.Kinds.{by_kind}
 use Rattle.table.specs.Tables.{TableValues}
-use Rattle.record.specs.declared.Observation.{Observation}
-use Rattle.record.specs.declared.Observation.TheVariants.{Nothing}
 use Rattle.record.specs.Records.{Input}
 use Rattle.cells.specs.Cells.{cells, cell_place}
 use Rattle.state.specs.States.{State, steps_of, cell_figures, cell_rains, put_steps, put_place, changed}
@@ -22,14 +21,14 @@ weight_of t i = by_kind (t.element i).kind (weight t.step (t.element i).lag) (we
 unfoldable pub network_down : TableValues → ℕ → ℕ
 network_down t i = (t.element i).down
 
-unfoldable pub network_cell : TableValues → (ℕ → Figures) → (ℕ → Observation) → ℕ → Figures → Figures → Figures
+unfoldable pub network_cell : TableValues → (ℕ → Figures) → (ℕ → (Option RatedReading)) → ℕ → Figures → Figures → Figures
 network_cell t own o i above old = element_step (weight_of t i) (t.element i) (own i) (o i) above old
 
 -- M-103: "the sum of old and new outflows above"
 unfoldable pub network_outflow : ℕ → Figures → Figures → Figures
 network_outflow i old new = old_and_new_outflow old new
 
-module _ (t : TableValues) (own : ℕ → Figures) (o : ℕ → Observation) (old : ℕ → Figures) where
+module _ (t : TableValues) (own : ℕ → Figures) (o : ℕ → (Option RatedReading)) (old : ℕ → Figures) where
   -- the sums of what drains into element i, and its new figures
   unfoldable pub above_of : ℕ → Figures
   above_of i = gathered no_inflow joined_inflow (network_down t) (network_cell t own o) network_outflow old i
@@ -49,12 +48,12 @@ step_own t input i =
     let e = t.element i in
     own_of e.kind (step_inflow (input i).rain e.area e.runoff) (released e (input i).release)
 
-unfoldable pub observed_in : (ℕ → Input) → ℕ → Observation
+unfoldable pub observed_in : (ℕ → Input) → ℕ → Option RatedReading
 observed_in input i = (input i).observation
 
 -- no gauge observes anything
-unfoldable pub no_observation : ℕ → Observation
-no_observation i = Nothing
+unfoldable pub no_observation : ℕ → Option RatedReading
+no_observation i = None
 
 -- a step from the state s, by what a record brings each element
 module _ (t : TableValues) (input : ℕ → Input) (s : State) where

@@ -3,9 +3,3 @@
 
 use refusal::Refusal;
 
-// The count of numbers written, or the refusal.
-#[derive(Clone, Copy)]
-pub enum ForecastAnswer {
-    Accepted(usize),
-    Refused(Refusal),
-}

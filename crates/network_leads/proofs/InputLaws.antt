@@ -1,4 +1,5 @@
 -- What the leads of one element are worked out from.
+use Rattle.std.specs.Prelude.{None}
 use Prim.Native.Nat.{ℕ, suc, ◌+◌, ◌≤◌, ◌<◌}
 use mathlib.Core.List.{List}
 use mathlib.Core.Logic.{◌≢◌}
@@ -21,7 +22,6 @@ use Rattle.table.proofs.InUseLaws.{element-read}
 use Rattle.table.proofs.HeldLaws.{element-bounds}
 use Rattle.cells.specs.Cells.{last_cell, last_of, tank_of, draining_into, inlet_of, cells}
 use Rattle.cells.proofs.CellLaws.{last-most, last-place, last-cell, last-in-use, cell-used}
-use Rattle.record.specs.declared.Observation.TheVariants.{Nothing}
 use Rattle.record.specs.Decoded.{ObservationFits}
 use Rattle.state.specs.States.{State, steps_of, figures_of, rains_of}
 use Rattle.state.specs.Bounds.{RainsUnder, StateBounds}
@@ -184,7 +184,7 @@ module _ (t : TableValues) (s : State) (i : ℕ) (used : i < t.elements) (k : (t
       (noise H leads w : ℕ)
       → noise ≡ (t.element i).system_noise.0
       → H ≡ element_weight t i
-      → InputOf (cells t) (lead_own t s) no_observation (lead_figures t s) w 1 (IsLast t) (own_row t) (tank_input noise H Nothing) (last_cell t i) leads
+      → InputOf (cells t) (lead_own t s) no_observation (lead_figures t s) w 1 (IsLast t) (own_row t) (tank_input noise H None) (last_cell t i) leads
   unfolding no_observation
   last-tank-input noise H leads w e is =
       record {

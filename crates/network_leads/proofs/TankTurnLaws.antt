@@ -1,4 +1,7 @@
 -- The turn of an element of tanks in the code of a forecast: the figures of its last put at lead 0, the tanks above it, and the last.
+use Prim.{Unit}
+use Rattle.std.specs.Prelude.{Result, Ok, Err, None}
+use Rattle.refusal.specs.Answers.{answer_of}
 use Prim.Native.Nat.{ℕ, ◌+◌, ◌*◌, ◌-◌, ◌≤◌, ◌<◌}
 use mathlib.Core.List.{List}
 use mathlib.Core.Logic.{◌≢◌, ⊎_elim, inl, inr}
@@ -11,9 +14,6 @@ use lib.ListN.{length, get_or}
 use Rattle.sizes.specs.Sizes.{most_places, most_leads, forecast_space}
 use Rattle.refusal.specs.declared.Refusal.{Refusal}
 use Rattle.refusal.specs.declared.Refusal.TheVariants.{AboveCeiling}
-use Rattle.refusal.specs.declared.Verdict.{Verdict}
-use Rattle.refusal.specs.declared.Verdict.TheVariants.{Accepted, Refused}
-use Rattle.refusal.specs.Verdicts.{verdict_answer}
 use Rattle.refusal.proofs.RuleLaws.{not-both}
 use Rattle.units.proofs.UnderLaws.{refused-whole}
 use Rattle.method.specs.declared.Figures.{Figures}
@@ -30,7 +30,6 @@ use Rattle.table.proofs.CountLaws.{extra-rise, extra-more, extra-read}
 use Rattle.table.proofs.HeldLaws.{element-there, tanks-known}
 use Rattle.cells.specs.Cells.{first_cell, last_cell, cells}
 use Rattle.cells.proofs.CellLaws.{last-is, last-in-use}
-use Rattle.record.specs.declared.Observation.TheVariants.{Nothing}
 use Rattle.record.specs.Decoded.{ObservationFits}
 use Rattle.state.specs.States.{State, figures_of}
 use Rattle.network.specs.Step.{weight_of, no_observation}
@@ -197,7 +196,7 @@ module _
           same : e ≡ extra
           same = read ∙ (ap (λ (y : Element). y.runoff - 1) (sym (element-read bytes i used)) ∙ sym extra-is)
 
-      module _ {r : Verdict} {worked : List ℕ} {e : ℕ} (read : e ≡ (element_at bytes i).runoff - 1) (opened : TanksOpened r noise H e x places s space worked) where
+      module _ {r : Result Unit Refusal} {worked : List ℕ} {e : ℕ} (read : e ≡ (element_at bytes i).runoff - 1) (opened : TanksOpened r noise H e x places s space worked) where
         opened-at :
             TanksOpened r noise H extra (t.elements + extra_before t i)
             (record { own = (i + 1) * w + 1; first = (t.elements + 1) * w + 1; width = w; leads = L }) s space worked
@@ -207,14 +206,14 @@ module _
             (subst (λ (k : ℕ). TanksOpened r noise H k x places s space worked)
             (read ∙ (ap (λ (y : Element). y.runoff - 1) (sym (element-read bytes i used)) ∙ sym extra-is)) opened))
 
-        pub tanks-above : {k : Refusal} {after : List ℕ} → r ≡ Refused k → TanksDone (Refused AboveCeiling) t s L i after
+        pub tanks-above : {k : Refusal} {after : List ℕ} → r ≡ Err k → TanksDone (Err AboveCeiling) t s L i after
         tanks-above a =
             record {
-              done = λ q. absurd (not-both (ap verdict_answer q) refl);
+              done = λ q. absurd (not-both (ap answer_of q) refl);
               above = λ _ _. passes t s L (tanks-pass t s L i used bounds.later bounds.down noise H noise-is inner-weight some.0 held.walked opened-at a);
             }
 
-        module _ (a : r ≡ Accepted) where
+        module _ (a : r ≡ (Ok tt)) where
           ready : Ready t s L i worked
           ready = ready-tanks t s L i used bounds.later bounds.down noise H noise-is inner-weight some.0 held.walked opened-at a
 
@@ -225,10 +224,10 @@ module _
               {d : ℕ}
               → d ≡ (element_at bytes i).down
               → length worked ≡ length space
-              → TankReady (tank_input noise H Nothing) f ((i + 1) * w + 1) (d * w + 1) L worked
+              → TankReady (tank_input noise H None) f ((i + 1) * w + 1) (d * w + 1) L worked
           unfolding ObservationFits
           last-ready {d} q size =
-              subst (λ (k : ℕ). TankReady (tank_input noise H Nothing) f ((i + 1) * w + 1) (k * w + 1) L worked) (sym (down_is q))
+              subst (λ (k : ℕ). TankReady (tank_input noise H None) f ((i + 1) * w + 1) (k * w + 1) L worked) (sym (down_is q))
               (record {
                 in_range = record {
                   element = record { kind = inr (inl refl); system_noise = omega (arith, noise-is, bounds.system_noise); rain_noise = omega arith };
@@ -247,7 +246,7 @@ module _
                 };
               })
 
-          of : InputOf (cells t) (lead_own t s) no_observation (lead_figures t s) w 1 (IsLast t) (own_row t) (tank_input noise H Nothing) (last_cell t i) L
+          of : InputOf (cells t) (lead_own t s) no_observation (lead_figures t s) w 1 (IsLast t) (own_row t) (tank_input noise H None) (last_cell t i) L
           of = last-tank-input t s i used g.kind noise H L w noise-is g.weighed.0
 
           -- figures at lead 0 stay while its tanks are worked out
@@ -255,13 +254,13 @@ module _
           kept-first k l = tanks-stay t L i k opened-at a ∙ held.first k l
 
           pub last_done :
-              {v : Verdict} {d : ℕ} {after : List ℕ}
+              {v : Result Unit Refusal} {d : ℕ} {after : List ℕ}
               → d ≡ (element_at bytes i).down
-              → ElementWorked v (tank_input noise H Nothing) f ((i + 1) * w + 1) (d * w + 1) L worked after
+              → ElementWorked v (tank_input noise H None) f ((i + 1) * w + 1) (d * w + 1) L worked after
               → TanksDone v t s L i after
           last_done {v} {d} {after} q done =
-              let work : ElementWorked v (tank_input noise H Nothing) f ((i + 1) * w + 1) ((t.element i).down * w + 1) L worked after =
-              subst (λ (k : ℕ). ElementWorked v (tank_input noise H Nothing) f ((i + 1) * w + 1) (k * w + 1) L worked after) (down_is q) done in
+              let work : ElementWorked v (tank_input noise H None) f ((i + 1) * w + 1) ((t.element i).down * w + 1) L worked after =
+              subst (λ (k : ℕ). ElementWorked v (tank_input noise H None) f ((i + 1) * w + 1) (k * w + 1) L worked after) (down_is q) done in
               record {
                 done = λ y.
                     record {
@@ -270,7 +269,7 @@ module _
                     };
                 above = λ k y.
                     refused-whole tt _ (lead_numbers t s L) (last_under t s L i used bounds.later bounds.down _ of f is ready)
-                    (sym (ap verdict_answer y) ∙ work.verdict);
+                    (sym (ap answer_of y) ∙ work.verdict);
               }
 
 -- ---- an element of tanks at which a run ended

@@ -1,5 +1,6 @@
 -- The turn of one element in the code of a forecast: its figures put at lead 0, what its leads are worked out from, and what is then held, of an
 -- element that is no tanks.
+use Rattle.std.specs.Prelude.{Result, Ok, Err}
 use Prim.{Unit}
 use Prim.Native.Nat.{ℕ, suc, ◌+◌, ◌*◌, ◌≤◌, ◌<◌}
 use mathlib.Core.List.{List, [], ◌∷◌}
@@ -12,11 +13,8 @@ use mir.Syntax.{w64}
 use mir.Val.{Fits}
 use lib.ListN.{length}
 use Rattle.sizes.specs.Sizes.{most_leads, forecast_space}
-use Rattle.refusal.specs.Answers.{refused}
+use Rattle.refusal.specs.Answers.{refused, answer_of}
 use Rattle.refusal.specs.declared.Refusal.{Refusal}
-use Rattle.refusal.specs.declared.Verdict.{Verdict}
-use Rattle.refusal.specs.declared.Verdict.TheVariants.{Accepted, Refused}
-use Rattle.refusal.specs.Verdicts.{verdict_answer}
 use Rattle.units.specs.Units.{C, S}
 use Rattle.units.specs.Ceiling.{some_passes, under_ceiling}
 use Rattle.units.proofs.UnderLaws.{Under, refused-whole}
@@ -171,7 +169,7 @@ module _ {bytes : List ℕ} {n L : ℕ} {weight : List ℕ} {s : State} (g : Giv
           };
         })
 
-    module _ (v : Verdict) (after : List ℕ) (done : ElementWorked v c f ((i + 1) * w + 1) (c.element.down * w + 1) L space after) where
+    module _ (v : Result Unit Refusal) (after : List ℕ) (done : ElementWorked v c f ((i + 1) * w + 1) (c.element.down * w + 1) L space after) where
       worked : ElementWorked v c f ((i + 1) * w + 1) ((t.element i).down * w + 1) L space after
       worked = subst (λ (d : ℕ). ElementWorked v c f ((i + 1) * w + 1) (d * w + 1) L space after) down_is done
 
@@ -181,12 +179,12 @@ module _ {bytes : List ℕ} {n L : ℕ} {weight : List ℕ} {s : State} (g : Giv
           (sym h.made) (input-of bytes s i used h.single _ count L w h.weighed.0 h.few)
 
       -- 16 at this element
-      pub turn-refused : {j : Refusal} → v ≡ Refused j → refused 16 ≡ under_ceiling {A = Unit} (lead_numbers t s L) tt
+      pub turn-refused : {j : Refusal} → v ≡ Err j → refused 16 ≡ under_ceiling {A = Unit} (lead_numbers t s L) tt
       turn-refused e =
           refused-whole tt _ (lead_numbers t s L) (last_under t s L i used bounds.later bounds.down c of f is ready)
-          (sym (ap verdict_answer e) ∙ worked.verdict)
+          (sym (ap answer_of e) ∙ worked.verdict)
 
-      pub turn-again : v ≡ Accepted → LeadsSoFar t s L (i + 1) (i + 1) after
+      pub turn-again : v ≡ (Ok tt) → LeadsSoFar t s L (i + 1) (i + 1) after
       turn-again e =
           record {
             walked = forecast-again t s L i used bounds.later bounds.down c of f is ready (worked.done e);

@@ -1,4 +1,6 @@
 -- The walk of a forecast: what its space holds after each element, with the state's figures at lead 0.
+use Rattle.refusal.specs.declared.Refusal.{Refusal}
+use Rattle.std.specs.Prelude.{Result, Ok, Err}
 use Prim.{Unit}
 use Prim.Native.Nat.{ℕ, zero, suc, ◌+◌, ◌*◌, ◌≤◌, ◌<◌}
 use mathlib.Core.List.{List}
@@ -8,11 +10,8 @@ use native.Mathlib.Nat.{mul-le-mul, mul-le-mul_right, add-zero, eq-or-lt_of_le}
 use native.Mathlib.Omega.{arith}
 use lib.ListN.{length}
 use Rattle.sizes.specs.Sizes.{most_elements, most_leads, forecast_space}
-use Rattle.refusal.specs.Answers.{refused}
+use Rattle.refusal.specs.Answers.{refused, answer_of}
 use Rattle.refusal.specs.declared.Refusal.TheVariants.{AboveCeiling}
-use Rattle.refusal.specs.declared.Verdict.{Verdict}
-use Rattle.refusal.specs.declared.Verdict.TheVariants.{Accepted, Refused}
-use Rattle.refusal.specs.Verdicts.{verdict_answer}
 use Rattle.refusal.proofs.RuleLaws.{not-both}
 use Rattle.units.specs.Ceiling.{under_ceiling}
 use Rattle.units.proofs.UnderLaws.{Under, under-accepted}
@@ -64,20 +63,20 @@ places-apart leads i d to =
 -- a place that is in none of their rows
 module _ {c : ElementInput} {first : ℕ → Figures} {place : ℕ → ℕ} {leads extra : ℕ} (p : ℕ) (apart : (j l : ℕ) → l < leads → p ≢ place j + l) where
   worked-stays :
-      {j : ℕ} {r : Verdict} {before after : List ℕ}
+      {j : ℕ} {r : Result Unit Refusal} {before after : List ℕ}
       → TanksWorked c first place leads extra j r before after
-      → r ≡ Accepted
+      → r ≡ (Ok tt)
       → figures_at after p ≡ figures_at before p
   worked-stays (done e) a = refl
-  worked-stays (tank-specs.refused l e m) a = absurd (not-both (ap verdict_answer a) refl)
+  worked-stays (tank-specs.refused l e m) a = absurd (not-both (ap answer_of a) refl)
   worked-stays {j} (more l e m rest) a =
       worked-stays rest a
       ∙ ((m.worked.done e).others p (λ k q. apart j k q) (λ k q. apart (j + 1) k q) ∙ m.row.others p (λ k q. apart (j + 1) k q))
 
 pub tanks-stay :
-    (t : TableValues) (L i k : ℕ) {r : Verdict} {noise H x : ℕ} {s : State} {before after : List ℕ}
+    (t : TableValues) (L i k : ℕ) {r : Result Unit Refusal} {noise H x : ℕ} {s : State} {before after : List ℕ}
     → TanksOpened r noise H (extra_tanks (t.element i)) x (record { own = (i + 1) * (L + 1) + 1; first = (t.elements + 1) * (L + 1) + 1; width = L + 1; leads = L }) s before after
-    → r ≡ Accepted
+    → r ≡ (Ok tt)
     → figures_at after ((k + 1) * (L + 1)) ≡ figures_at before ((k + 1) * (L + 1))
 tanks-stay t L i k g a =
     worked-stays ((k + 1) * (L + 1)) (λ j l m. rw (tank-place (t.elements + 1) (i + 1) (extra_tanks (t.element i)) (L + 1) 1 L j) (λ e. apart-row _ l m e)) g.worked a
@@ -159,7 +158,7 @@ module _ (t : TableValues) (s : State) (leads : ℕ) where
       next p = omega arith
 
   module _ (all : leads ≡ t.leads) where
-    pub worked-accepted : (space : List ℕ) → LeadsSoFar t s leads t.elements t.elements space → LeadsWorked Accepted space t s
+    pub worked-accepted : (space : List ℕ) → LeadsSoFar t s leads t.elements t.elements space → LeadsWorked (Ok tt) space t s
     worked-accepted space h =
         record {
           verdict =
@@ -173,9 +172,9 @@ module _ (t : TableValues) (s : State) (leads : ℕ) where
         }
 
     -- some number passes
-    pub worked-refused : (space : List ℕ) → refused 16 ≡ under_ceiling {A = Unit} (lead_numbers t s leads) tt → LeadsWorked (Refused AboveCeiling) space t s
+    pub worked-refused : (space : List ℕ) → refused 16 ≡ under_ceiling {A = Unit} (lead_numbers t s leads) tt → LeadsWorked (Err AboveCeiling) space t s
     worked-refused space passes =
         record {
           verdict = rw all at passes;
-          held = λ a. absurd (not-both (ap verdict_answer a) refl);
+          held = λ a. absurd (not-both (ap answer_of a) refl);
         }

@@ -1,12 +1,11 @@
 -- Serves the code: what the leads of one element are worked out from.
-use Rattle.std.specs.Prelude.{ℕ, ◌≤◌, ◌<◌, List, ◌≡◌, length}
+use Rattle.std.specs.Prelude.{ℕ, ◌≤◌, ◌<◌, List, ◌≡◌, length, None}
 use Rattle.method.specs.Inflow.{mean_rain_inflow}
 use Rattle.elements.specs.declared.Element.{Element}
 use Rattle.elements.specs.Elements.{element_at}
 use Rattle.elements.specs.Kinds.{by_kind}
 use Rattle.table.specs.Bounds.{AcceptedTable}
 use Rattle.table.specs.InUse.{table_in}
-use Rattle.record.specs.declared.Observation.TheVariants.{Nothing}
 use Rattle.state.specs.States.{State, figures_of, rains_of}
 use Rattle.state.specs.Bounds.{StateBounds}
 use Rattle.one_lead.specs.declared.ElementInput.{ElementInput}
@@ -23,7 +22,7 @@ pub record InputReady (bytes : List ℕ) (s : State) (i kind : ℕ) (weight : Li
 
 -- an element, its weight and its own number: "leads 1 to L are steps without readings"
 abbrev pub input_of : Element → ℕ → ℕ → ElementInput
-input_of e weight own = record { element = e; weight = weight; own = own; first_lead = 1; observation = Nothing }
+input_of e weight own = record { element = e; weight = weight; own = own; first_lead = 1; observation = None }
 
 -- the inflow that a basin's last rains bring, the discharge that the state holds of a dam
 unfoldable pub own_number : Element → ℕ → State → ℕ → ℕ

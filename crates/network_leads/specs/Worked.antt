@@ -1,12 +1,9 @@
 -- Serves the code: what the walk of a forecast relies on, and what it has worked out in its space: element number k at lead l at place
 -- k * (leads + 1) + l.
 use Prim.{Unit}
-use Rattle.std.specs.Prelude.{ℕ, suc, ◌+◌, ◌*◌, ◌≤◌, ◌<◌, min, List, ◌≡◌, length}
-use Rattle.refusal.specs.Answers.{refused}
-use Rattle.refusal.specs.Verdicts.{verdict_answer}
-use Rattle.refusal.specs.declared.Verdict.{Verdict}
+use Rattle.std.specs.Prelude.{ℕ, suc, ◌+◌, ◌*◌, ◌≤◌, ◌<◌, min, List, ◌≡◌, length, Result, Ok, Err}
+use Rattle.refusal.specs.Answers.{refused, answer_of}
 use Rattle.refusal.specs.declared.Refusal.{Refusal}
-use Rattle.refusal.specs.declared.Verdict.TheVariants.{Accepted, Refused}
 use Rattle.units.specs.Units.{S}
 use Rattle.units.specs.Ceiling.{under_ceiling}
 use Rattle.elements.specs.Kinds.{tanks}
@@ -88,9 +85,9 @@ pub record RunWorked (r : RunEnd) (t : TableValues) (s : State) (leads from : �
   pub next : (i : ℕ) → r ≡ Tanks i → TanksNext t s leads from i space
 
 -- an element of tanks is worked out, or some number passes
-pub record TanksDone (r : Verdict) (t : TableValues) (s : State) (leads i : ℕ) (space : List ℕ) : Type 0 where
-  pub done : r ≡ Accepted → LeadsSoFar t s leads (i + 1) (i + 1) space
-  pub above : (k : Refusal) → r ≡ Refused k → refused 16 ≡ under_ceiling {A = Unit} (lead_numbers t s leads) tt
+pub record TanksDone (r : Result Unit Refusal) (t : TableValues) (s : State) (leads i : ℕ) (space : List ℕ) : Type 0 where
+  pub done : r ≡ (Ok tt) → LeadsSoFar t s leads (i + 1) (i + 1) space
+  pub above : (k : Refusal) → r ≡ Err k → refused 16 ≡ under_ceiling {A = Unit} (lead_numbers t s leads) tt
 
 -- the figures of each element, which are those of its last cell, at each lead stand at their places
 pub record LeadsHeld (space : List ℕ) (t : TableValues) (s : State) : Type 0 where
@@ -101,6 +98,6 @@ pub record LeadsHeld (space : List ℕ) (t : TableValues) (s : State) : Type 0 w
       → figures_at space ((i + 1) * (t.leads + 1) + lead) ≡ lead_figures t s lead (last_cell t i)
 
 -- the leads are worked out, or 16
-pub record LeadsWorked (r : Verdict) (space : List ℕ) (t : TableValues) (s : State) : Type 0 where
-  pub verdict : verdict_answer r ≡ under_ceiling (lead_numbers t s t.leads) tt
-  pub held : r ≡ Accepted → LeadsHeld space t s
+pub record LeadsWorked (r : Result Unit Refusal) (space : List ℕ) (t : TableValues) (s : State) : Type 0 where
+  pub verdict : answer_of r ≡ under_ceiling (lead_numbers t s t.leads) tt
+  pub held : r ≡ (Ok tt) → LeadsHeld space t s

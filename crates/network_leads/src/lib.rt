@@ -14,8 +14,7 @@ use inflow::mean_rain_inflow;
 use lead_walk::{store_tank, work_element};
 use one_lead::ElementInput;
 use rain_sums::{rain_count, sum_of};
-use record::Observation;
-use refusal::{Refusal, Verdict};
+use refusal::Refusal;
 use sizes::STATE_NUMBERS;
 use state::{discharge_of, figures_of};
 use tank_walk::{TankPlaces, open_tanks};
@@ -29,7 +28,7 @@ fn input_of(element: Element, weight: u64, own: u64) -> ElementInput
         weight,
         own,
         first_lead: 1,
-        observation: Observation::Nothing,
+        observation: None,
     }
 }
 
@@ -101,7 +100,7 @@ fn work_run(
         let input = lead_input(table, i, kind_at(table, i), weights, count, state);
         let element = input.element;
         let below = element.down * width + 1;
-        let Verdict::Accepted = work_element(input, first, here, below, leads, &mut *space) else {
+        let Ok(()) = work_element(input, first, here, below, leads, &mut *space) else {
             return RunEnd::Above;
         };
     }
@@ -120,7 +119,7 @@ fn work_tanks(
     state: &[u64; STATE_NUMBERS],
     space: &mut [u64],
     again: bool,
-) -> Verdict
+) -> Result<(), Refusal>
     requires { TanksReady table.now n i x leads weight state.now space.old }
     ensures { TanksDone result (table_in table.now) state.now leads i space.new }
 {
@@ -139,14 +138,12 @@ fn work_tanks(
         leads,
     };
     let extra = extra_at(table, i);
-    let Verdict::Accepted = open_tanks(noise, weight, extra, x, places, state, &mut *space) else {
-        return Verdict::Refused(Refusal::AboveCeiling);
-    };
+    open_tanks(noise, weight, extra, x, places, state, &mut *space)?;
     let below = down_at(table, i) * width + 1;
     store_tank(
         noise,
         weight,
-        Observation::Nothing,
+        None,
         last,
         own + 1,
         below,
@@ -164,7 +161,7 @@ pub fn work_leads(
     weights: &[u64],
     state: &[u64; STATE_NUMBERS],
     space: &mut [u64],
-) -> Verdict
+) -> Result<(), Refusal>
     requires { Given table.now n leads weights.now state.now × Cleared (table_in table.now) space.old }
     ensures { LeadsWorked result space.new (table_in table.now) state.now }
 {
@@ -174,13 +171,13 @@ pub fn work_leads(
         let end = work_run(table, n, from, leads, weights, state, &mut *space);
         match end {
             RunEnd::Done => {
-                return Verdict::Accepted;
+                return Ok(());
             }
             RunEnd::Above => {
-                return Verdict::Refused(Refusal::AboveCeiling);
+                return Err(Refusal::AboveCeiling);
             }
             RunEnd::Tanks(i) => {
-                let Verdict::Accepted = work_tanks(
+                work_tanks(
                     &table[..],
                     n,
                     i,
@@ -190,9 +187,7 @@ pub fn work_leads(
                     state,
                     &mut space[..],
                     true,
-                ) else {
-                    return Verdict::Refused(Refusal::AboveCeiling);
-                };
+                )?;
                 x += extra_at(table, i);
                 from = i + 1;
             }

@@ -1,4 +1,6 @@
 -- The loops of a step: what they hold after i elements, one element more, and the end.
+use Rattle.rating.specs.declared.RatedReading.{RatedReading}
+use Rattle.std.specs.Prelude.{Result, Ok, Err, Option, None}
 use Prim.{Unit}
 use Prim.Native.Nat.{ℕ, suc, ◌+◌, ◌-◌, ◌*◌, ◌≤◌, ◌<◌}
 use mathlib.Core.Bool.{Bool, true, false, true≢false, cond}
@@ -10,12 +12,9 @@ use native.Mathlib.Nat.{zero-mul}
 use native.Mathlib.Omega.{arith}
 use lib.ListN.{length, replicate, length-replicate}
 use Rattle.sizes.specs.Sizes.{most_places, most_gauges}
-use Rattle.refusal.specs.Answers.{Answer, accepted, refused}
+use Rattle.refusal.specs.Answers.{Answer, accepted, refused, answer_of}
 use Rattle.refusal.specs.declared.Refusal.{Refusal}
 use Rattle.refusal.specs.declared.Refusal.TheVariants.{AboveCeiling}
-use Rattle.refusal.specs.declared.Verdict.{Verdict}
-use Rattle.refusal.specs.declared.Verdict.TheVariants.{Accepted, Refused}
-use Rattle.refusal.specs.Verdicts.{verdict_answer}
 use Rattle.units.specs.Units.{C, S, thousandths}
 use Rattle.units.specs.Ceiling.{some_passes, under_ceiling}
 use Rattle.units.proofs.UnderLaws.{Under, under-accepted, refused-whole}
@@ -35,8 +34,6 @@ use Rattle.table.proofs.InUseLaws.{element-read}
 use Rattle.table.proofs.HeldLaws.{element-there, element-bounds}
 use Rattle.cells.specs.Cells.{first_cell, last_cell, inlet_of, last_of, tank_of, draining_into, cell_place, cells}
 use Rattle.cells.proofs.CellLaws.{CellIn, last-is, last-most, last-in-use, last-cell, last-place, inner-cell, cell-used}
-use Rattle.record.specs.declared.Observation.{Observation}
-use Rattle.record.specs.declared.Observation.TheVariants.{Nothing}
 use Rattle.record.specs.Records.{rain_at, release_at, rain_of, release_of, input_rain, input_release, input_observation, Input, input_at}
 use Rattle.table.specs.KindCounts.{basins_before, dams_before, basin_count, extra_before}
 use Rattle.table.proofs.CountLaws.{count_none, count-more, basins-most, dams-most, extra-none, extra-more, extra-rise}
@@ -112,7 +109,7 @@ own_same e rain release lead l =
     (λ _ _ _. refl)
 
 -- what the code makes of element i, of whatever kind: its own number, and the counts
-module _ (table bytes : List ℕ) (i weight b : ℕ) (passed : Passed) (o : Observation) where
+module _ (table bytes : List ℕ) (i weight b : ℕ) (passed : Passed) (o : Option RatedReading) where
   pub input-made :
       {e : Element} {own basins dams : ℕ} {x : ElementInput} {r : StepInput} {kind : ℕ}
       → kind ≡ (element_at table i).kind
@@ -193,7 +190,7 @@ module _ (table bytes : List ℕ) (s : State) where
   abbrev own : ℕ → ℕ → Figures
   own l = step_own (cells t) (input_at (cells t) bytes)
 
-  abbrev o : ℕ → Observation
+  abbrev o : ℕ → Option RatedReading
   o = observed_in (input_at (cells t) bytes)
 
   abbrev old : ℕ → ℕ → Figures
@@ -306,7 +303,7 @@ module _ (table bytes : List ℕ) (s : State) where
         rw (release-is i l all counted) (inputs-fit t bytes accepts.bounds.gauge kept i l).release in
         rw (by-dam (element_at table i).kind _ 0 (release_at bytes b passed.dams) 0 k) (rw (by-dam (element_at table i).kind 0 0 (release_at bytes b passed.dams) 0 k) at fits)
 
-    observation-fits : {seen : Observation} → seen ≡ input_observation t bytes i t.gauges → ObservationFits seen
+    observation-fits : {seen : Option RatedReading} → seen ≡ input_observation t bytes i t.gauges → ObservationFits seen
     unfolding input_at
     observation-fits e = rw e (inputs-fit t bytes accepts.bounds.gauge kept i l).observation
 
@@ -337,7 +334,7 @@ module _ (table bytes : List ℕ) (s : State) where
     unfolding input_at
     observation-read = refl
 
-    seen_last : {seen : Observation} → seen ≡ input_observation t bytes i t.gauges → seen ≡ observed_in (input_at (cells t) bytes) (last_cell t i)
+    seen_last : {seen : Option RatedReading} → seen ≡ input_observation t bytes i t.gauges → seen ≡ observed_in (input_at (cells t) bytes) (last_cell t i)
     unfolding observed_in
     seen_last observed =
         observed ∙ sym (ap (λ (x : Input). x.observation) (last-input t accepts.bounds.gauge bytes i l) ∙ observation-read)
@@ -356,10 +353,10 @@ module _ (table bytes : List ℕ) (s : State) where
           element-turn t own o old by-again i l to there h of (is ∙ first-is)
           (subst (λ (p : ℕ). LeadsDone c first (i + 1) p 1 before after) (down ∙ sym down_is) g)
 
-      last-passes : {r : Verdict} {k : Refusal} → r ≡ Refused k → ElementWorked r c first (i + 1) d 1 before after → StepPasses t bytes s
+      last-passes : {r : Result Unit Refusal} {k : Refusal} → r ≡ Err k → ElementWorked r c first (i + 1) d 1 before after → StepPasses t bytes s
       last-passes e q =
           refused-whole tt _ (step_numbers t (input_at (cells t) bytes) s)
-          (λ u. element-part t own o old by-again i l to there h of (is ∙ first-is) (all_under u)) (sym (ap verdict_answer e) ∙ q.verdict)
+          (λ u. element-part t own o old by-again i l to there h of (is ∙ first-is) (all_under u)) (sym (ap answer_of e) ∙ q.verdict)
 
     -- ---- an element that is one cell
 
@@ -387,7 +384,7 @@ module _ (table bytes : List ℕ) (s : State) where
 
       -- as the code takes it
       module _
-          {weight b : ℕ} {passed : Passed} {seen : Observation} (w : weight ≡ element_weight t i) (all : b ≡ basin_count t)
+          {weight b : ℕ} {passed : Passed} {seen : Option RatedReading} (w : weight ≡ element_weight t i) (all : b ≡ basin_count t)
           (counted : PassedBefore t i passed) (observed : seen ≡ input_observation t bytes i t.gauges) where
         abbrev taken : ElementInput
         taken = (step_input table i weight bytes b passed seen).input
@@ -456,15 +453,15 @@ module _ (table bytes : List ℕ) (s : State) where
               last-turned (one-ready h) input-of is down (subst (λ (x : ElementInput). LeadsDone x first (i + 1) d 1 before after) same g)
 
           -- it refuses, and with it the step
-          pub stepping-refused : ElementWorked (Refused AboveCeiling) c first (i + 1) d 1 before after → StepPasses t bytes s
+          pub stepping-refused : ElementWorked (Err AboveCeiling) c first (i + 1) d 1 before after → StepPasses t bytes s
           stepping-refused q =
               last-passes (one-ready h) input-of is refl
-              (subst (λ (x : ElementInput). ElementWorked (Refused AboveCeiling) x first (i + 1) d 1 before after) same q)
+              (subst (λ (x : ElementInput). ElementWorked (Err AboveCeiling) x first (i + 1) d 1 before after) same q)
 
     -- ---- an element of tanks
 
     module _ (kind : (t.element i).kind ≡ tanks) {noise weight : ℕ} (system : noise ≡ (t.element i).system_noise.0) (w : weight ≡ element_weight t i) where
-      module _ (c d : ℕ) (ob : Observation) (is : (cells t).element c ≡ tank_of (t.element i) d) where
+      module _ (c d : ℕ) (ob : Option RatedReading) (is : (cells t).element c ≡ tank_of (t.element i) d) where
         tank-own : (lead : ℕ) → own_at_lead (tank_input noise weight ob) (1 + lead) ≡ step_own (cells t) (input_at (cells t) bytes) c
         unfolding step_own own_at own_of by_kind tank_of
         tank-own lead = rw is
@@ -490,12 +487,12 @@ module _ (table bytes : List ℕ) (s : State) where
               own_part = λ lead m. tank-own lead;
             }
 
-      nothing : {c : ℕ} → CellIn t i c → c < last_cell t i → Nothing ≡ observed_in (input_at (cells t) bytes) c
+      nothing : {c : ℕ} → CellIn t i c → c < last_cell t i → None ≡ observed_in (input_at (cells t) bytes) c
       unfolding observed_in
       nothing inside inner = sym (ap (λ (x : Input). x.observation) (inner-input t accepts.bounds.gauge bytes inside inner))
 
       -- those above the last, and the last
-      above_of : (j : ℕ) → j < extra_tanks (t.element i) → StepInputOf t own o old (tank_input noise weight Nothing) (first_cell t i + j)
+      above_of : (j : ℕ) → j < extra_tanks (t.element i) → StepInputOf t own o old (tank_input noise weight None) (first_cell t i + j)
       above_of j m = tank-of (first_cell t i + j) _ _ (inner-tank t i l _ inside inner) (tank-weight t i _ inside inner) (nothing inside inner)
         where
           inside : CellIn t i (first_cell t i + j)
@@ -504,7 +501,7 @@ module _ (table bytes : List ℕ) (s : State) where
           inner : first_cell t i + j < last_cell t i
           inner = omega (arith, m, last-is t i)
 
-      last-of : {seen : Observation} → seen ≡ input_observation t bytes i t.gauges → StepInputOf t own o old (tank_input noise weight seen) (last_cell t i)
+      last-of : {seen : Option RatedReading} → seen ≡ input_observation t bytes i t.gauges → StepInputOf t own o old (tank_input noise weight seen) (last_cell t i)
       last-of observed = tank-of (last_cell t i) _ _ (last-tank t i l kind) refl (seen_last observed)
 
       module _ {x extra : ℕ} (place : x ≡ t.elements + extra_before t i) (many : extra ≡ extra_tanks (t.element i)) where
@@ -516,7 +513,7 @@ module _ (table bytes : List ℕ) (s : State) where
         open-ready room few = rw (place, many) (step-tanks-ready t i l accepts.bounds kind state room system few)
 
         module _
-            {r : Verdict} {before middle : List ℕ} (h : Stepping t bytes s i before)
+            {r : Result Unit Refusal} {before middle : List ℕ} (h : Stepping t bytes s i before)
             (g : TanksOpened r noise weight extra x placed s before middle) where
           opened : TanksOpened r noise weight (extra_tanks (t.element i)) (t.elements + extra_before t i) (step_places t i) s before middle
           opened = rw (place, many) at g
@@ -524,16 +521,16 @@ module _ (table bytes : List ℕ) (s : State) where
           some : 0 < extra_tanks (t.element i)
           some = extra-some t i l accepts.bounds kind
 
-          opened-last : r ≡ Accepted → AtLast middle
+          opened-last : r ≡ (Ok tt) → AtLast middle
           opened-last a = ready-tanks t own o old by-again i l to there some above_of by-none h opened a
 
-          pub opened-passes : {k : Refusal} → r ≡ Refused k → StepPasses t bytes s
+          pub opened-passes : {k : Refusal} → r ≡ Err k → StepPasses t bytes s
           opened-passes e =
               passes (step_numbers t (input_at (cells t) bytes) s)
               (λ u. tanks-pass t own o old by-again i l to there some above_of by-none h opened e (all_under u))
 
           module _
-              (a : r ≡ Accepted) {seen : Observation} (observed : seen ≡ input_observation t bytes i t.gauges) {first : Figures}
+              (a : r ≡ (Ok tt)) {seen : Option RatedReading} (observed : seen ≡ input_observation t bytes i t.gauges) {first : Figures}
               (is : first ≡ figures_of s i) {d : ℕ} (down : d ≡ (element_at table i).down) where
             -- the last is ready
             pub last-ready-tank :
@@ -570,7 +567,7 @@ module _ (table bytes : List ℕ) (s : State) where
 
             -- all tanks are worked out, or some number passes
             pub tanks-stepped :
-                {v : Verdict} {after : List ℕ}
+                {v : Result Unit Refusal} {after : List ℕ}
                 → ElementWorked v (tank_input noise weight seen) first (i + 1) d 1 middle after
                 → ElementStepped v t bytes s i after
             tanks-stepped q =

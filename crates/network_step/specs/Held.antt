@@ -1,13 +1,10 @@
 -- Serves the code: what the code of a step relies on, holds and has worked out.
 use Prim.{Unit}
-use Rattle.std.specs.Prelude.{ℕ, zero, suc, ◌+◌, ◌*◌, ◌≤◌, ◌<◌, Bool, true, false, List, ◌≡◌, length}
+use Rattle.std.specs.Prelude.{ℕ, zero, suc, ◌+◌, ◌*◌, ◌≤◌, ◌<◌, Bool, true, false, List, ◌≡◌, length, Result, Ok, Err}
 use Rattle.sizes.specs.Sizes.{most_elements, most_places, most_gauges}
-use Rattle.refusal.specs.Answers.{accepted}
+use Rattle.refusal.specs.Answers.{accepted, answer_of}
 use Rattle.refusal.specs.declared.Refusal.{Refusal}
 use Rattle.refusal.specs.declared.Refusal.TheVariants.{AboveCeiling}
-use Rattle.refusal.specs.declared.Verdict.{Verdict}
-use Rattle.refusal.specs.declared.Verdict.TheVariants.{Accepted, Refused}
-use Rattle.refusal.specs.Verdicts.{verdict_answer}
 use Rattle.units.specs.Ceiling.{under_ceiling}
 use Rattle.method.specs.declared.Figures.{Figures}
 use Rattle.method.specs.Figures.{FiguresFit}
@@ -78,7 +75,7 @@ module _ (t : TableValues) (bytes : List ℕ) (s : State) where
 
   -- some number of the step passes the ceiling
   abbrev pub StepPasses : Type 0
-  StepPasses = verdict_answer (Refused AboveCeiling) ≡ under_ceiling (step_numbers t (input_at (cells t) bytes) s) tt
+  StepPasses = answer_of (Err AboveCeiling) ≡ under_ceiling (step_numbers t (input_at (cells t) bytes) s) tt
 
 -- the basins and dams that a step has come past before element i
 pub record PassedBefore (t : TableValues) (i : ℕ) (passed : Passed) : Type 0 where
@@ -135,13 +132,13 @@ pub record TanksReady (table : List ℕ) (n m : ℕ) (met : Reached) (weight obs
   pub turn : TanksTurn table n m met weight observed s space basins bytes
 
 -- element i is worked out, or some number passes
-pub record ElementStepped (r : Verdict) (t : TableValues) (bytes : List ℕ) (s : State) (i : ℕ) (after : List ℕ) : Type 0 where
-  pub done : r ≡ Accepted → Stepping t bytes s (i + 1) after
-  pub passes : (k : Refusal) → r ≡ Refused k → StepPasses t bytes s
+pub record ElementStepped (r : Result Unit Refusal) (t : TableValues) (bytes : List ℕ) (s : State) (i : ℕ) (after : List ℕ) : Type 0 where
+  pub done : r ≡ (Ok tt) → Stepping t bytes s (i + 1) after
+  pub passes : (k : Refusal) → r ≡ Err k → StepPasses t bytes s
 
 -- so by every record of which it is the turn
 pub record TanksTurned
-    (r : Verdict) (table : List ℕ) (n m : ℕ) (met : Reached) (weight observed : List ℕ) (s : State) (before after : List ℕ)
+    (r : Result Unit Refusal) (table : List ℕ) (n m : ℕ) (met : Reached) (weight observed : List ℕ) (s : State) (before after : List ℕ)
     : Type 0 where
   pub by :
       (basins : ℕ) (bytes : List ℕ)
@@ -166,11 +163,11 @@ pub record PastReady (table : List ℕ) (n m : ℕ) (met : Reached) : Type 0 whe
   pub gauges_few : met.gauges ≤ most_gauges
 
 -- whether no number passes the ceiling, as a verdict
-unfoldable pub under_verdict : Bool → Verdict
-under_verdict true = Accepted
-under_verdict false = Refused AboveCeiling
+unfoldable pub under_verdict : Bool → Result Unit Refusal
+under_verdict true = (Ok tt)
+under_verdict false = Err AboveCeiling
 
 -- the step is worked out where no number passes
 pub record StepWorked (under : Bool) (space : List ℕ) (t : TableValues) (bytes : List ℕ) (s : State) : Type 0 where
-  pub decided : verdict_answer (under_verdict under) ≡ under_ceiling (step_numbers t (input_at (cells t) bytes) s) tt
+  pub decided : answer_of (under_verdict under) ≡ under_ceiling (step_numbers t (input_at (cells t) bytes) s) tt
   pub held : under ≡ true → FiguresHeld space t bytes s

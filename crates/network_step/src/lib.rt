@@ -10,21 +10,21 @@ ghost use Rattle.answer_space.specs.Places.{added};
 ghost use Rattle.network_step.specs.Inputs.{input_of, step_input, StepInputReady};
 ghost use Rattle.network_step.specs.Held.{StepReady, place_count, Cleared, OldReady, RunReady, RunEnded, is_done, TanksReady, TanksTurned, PastReady, past_tanks, StepWorked};
 
+use rating::RatedReading;
 use answer_space::add_figures;
 use elements::{Element, down_at, element_at, extra_at, kind_at, noise_at};
 use inflow::{mean_rain_inflow, old_outflow};
 use lead_walk::store_tank;
-use method::FiguresAnswer;
 use one_lead::ElementInput;
 use readings::{gauge_here, observation_here};
-use record::{Observation, rain_at, release_at};
-use refusal::{Refusal, Verdict};
+use record::{rain_at, release_at};
+use refusal::Refusal;
 use sizes::STATE_NUMBERS;
 use state::figures_of;
 use tank_walk::{TankPlaces, open_tanks};
 
 // What a step works an element out of: its weight, its own number, lead 0, and what its gauge observed.
-fn input_of(element: Element, weight: u64, own: u64, observation: Observation) -> ElementInput
+fn input_of(element: Element, weight: u64, own: u64, observation: Option<RatedReading>) -> ElementInput
     ensures { result ≡ input_of element weight own observation }
 {
     ElementInput {
@@ -68,7 +68,7 @@ fn step_input(
     bytes: &[u8],
     b: usize,
     passed: Passed,
-    observation: Observation,
+    observation: Option<RatedReading>,
 ) -> StepInput
     requires { StepInputReady table.now i bytes.now b passed }
     ensures { result ≡ step_input table.now i weight bytes.now b passed observation }
@@ -191,7 +191,7 @@ fn work_run(
         let element = input.element;
         let before = figures_of(state, i);
         let worked = one_lead::work_step(input, i + 1, element.down, before, &mut *space);
-        let FiguresAnswer::Accepted(_) = worked else {
+        let Ok(_) = worked else {
             return RunEnd::Above;
         };
         passed = taken.passed;
@@ -211,7 +211,7 @@ fn work_tanks(
     observed: &[u64],
     state: &[u64; STATE_NUMBERS],
     space: &mut [u64],
-) -> Verdict
+) -> Result<(), Refusal>
     requires { TanksReady table.now n m met weights.now observed.now state.now space.old }
     ensures { TanksTurned result table.now n m met weights.now observed.now state.now space.old space.new }
 {
@@ -229,9 +229,7 @@ fn work_tanks(
         leads: 1,
     };
     let opened = open_tanks(noise, weight, extra, x, places, state, &mut *space);
-    let Verdict::Accepted = opened else {
-        return Verdict::Refused(Refusal::AboveCeiling);
-    };
+    opened?;
     let last = figures_of(state, i);
     let below = down_at(table, i);
     store_tank(noise, weight, observation, last, i + 1, below, 1, space)
@@ -285,7 +283,7 @@ pub fn work_step(
             return run_done(end);
         };
         let worked = work_tanks(table, n, m, met, weights, observed, state, &mut *space);
-        let Verdict::Accepted = worked else {
+        let Ok(()) = worked else {
             return false;
         };
         from = past_tanks(table, n, m, met);

@@ -1,4 +1,6 @@
 -- What the code of one lead, or of a step, answers and leaves.
+use Rattle.rating.specs.declared.RatedReading.{RatedReading}
+use Rattle.std.specs.Prelude.{Result, Ok, Err, Option}
 use Prim.Native.Nat.{ℕ, ◌+◌, ◌*◌, ◌<◌}
 use mathlib.Core.List.{List}
 use mathlib.Core.Logic.{◌≢◌}
@@ -7,18 +9,15 @@ use native.Mathlib.Omega.{arith}
 use lib.ListN.{length}
 use Rattle.refusal.specs.declared.Refusal.{Refusal}
 use Rattle.refusal.specs.declared.Refusal.TheVariants.{AboveCeiling}
-use Rattle.refusal.specs.Answers.{accepted}
+use Rattle.refusal.specs.Answers.{accepted, answer_of}
 use Rattle.refusal.proofs.RuleLaws.{not-both}
 use Rattle.units.specs.Ceiling.{under_ceiling}
 use Rattle.units.proofs.CeilingLaws.{same-refused}
 use Rattle.method.specs.declared.Figures.{Figures}
-use Rattle.method.specs.declared.FiguresAnswer.{FiguresAnswer}
-use Rattle.method.specs.declared.FiguresAnswer.TheVariants.{Accepted, Refused}
-use Rattle.method.specs.Figures.{figures_answer, FiguresFit, AnsweredFiguresFit}
+use Rattle.method.specs.Figures.{FiguresFit, AnsweredFiguresFit}
 use Rattle.method.specs.Inflow.{reach_inflow, joined_inflow, old_outflow, old_and_new_outflow}
 use Rattle.method.proofs.InflowLaws.{old-then-new, new-then-old, old-outflow-fits}
 use Rattle.elements.specs.Kinds.{dam}
-use Rattle.record.specs.declared.Observation.{Observation}
 use Rattle.record.specs.Decoded.{ObservationFits}
 use Rattle.element_step.specs.Bounds.{tank_element, TankInRange}
 use Rattle.element_step.specs.ElementStep.{released}
@@ -89,7 +88,7 @@ module _
 
     -- so with a step, whose code adds the old ones first
     pub step-worked :
-        {r : FiguresAnswer} {after : List ℕ}
+        {r : Result Figures Refusal} {after : List ℕ}
         → LeadWorked (λ x. x) r c lead old space after
         → LeadWorked (old_and_new_outflow old) r c lead old before after
     step-worked w =
@@ -148,15 +147,15 @@ module _ (c : ElementInput) (lead : Lead) (old : Figures) (before : List ℕ) (r
 
 -- the figures that drain in, as they were read, and what the element answered of them
 module _
-    (c : ElementInput) (lead : Lead) (old : Figures) (before : List ℕ) (above : Figures) (r : FiguresAnswer)
+    (c : ElementInput) (lead : Lead) (old : Figures) (before : List ℕ) (above : Figures) (r : Result Figures Refusal)
     (read : above ≡ figures_at before lead.here)
     (answered :
-    (figures_answer r
+    (answer_of r
     ≡ element_answer c.weight c.element
     (record { own = c.own; lead = lead.number; above = above; observation = c.observation }) old)
     × AnsweredFiguresFit r) where
   known :
-      figures_answer r
+      answer_of r
       ≡ under_ceiling (lead_step_numbers c lead.number (figures_at before lead.here) old)
       (lead_step c lead.number (figures_at before lead.here) old)
   unfolding element_answer lead_step lead_step_numbers
@@ -164,26 +163,26 @@ module _
 
   pub lead-refused :
       {let_out : Figures → Figures} {k : Refusal} {after : List ℕ}
-      → r ≡ Refused k
-      → LeadWorked let_out (Refused AboveCeiling) c lead old before after
+      → r ≡ Err k
+      → LeadWorked let_out (Err AboveCeiling) c lead old before after
   lead-refused e =
       record {
-        answer = sym (same-refused _ _ _ (sym (ap figures_answer e) ∙ known));
-        kept = λ x a. absurd (not-both (ap figures_answer a) refl);
+        answer = sym (same-refused _ _ _ (sym (ap answer_of e) ∙ known));
+        kept = λ x a. absurd (not-both (ap answer_of a) refl);
       }
 
-  module _ (x : Figures) (e : r ≡ Accepted x) where
+  module _ (x : Figures) (e : r ≡ Ok x) where
     pub lead-accepted :
         (let_out : Figures → Figures) {after : List ℕ}
         → LeadKept x (let_out x) lead before after
-        → LeadWorked let_out (Accepted x) c lead old before after
+        → LeadWorked let_out (Ok x) c lead old before after
     lead-accepted let_out {after} k =
         record {
-          answer = sym (ap figures_answer e) ∙ known;
+          answer = sym (ap answer_of e) ∙ known;
           kept = λ y v. subst (λ (z : Figures). LeadKept z (let_out z) lead before after) (same v) k;
         }
       where
-        same : {y : Figures} → Accepted x ≡ Accepted y → x ≡ y
+        same : {y : Figures} → Ok x ≡ Ok y → x ≡ y
         same v = cc
 
 -- a dam at a lead: its release, whatever drains in
@@ -198,10 +197,10 @@ module _ (c : ElementInput) (lead : Lead) (old : Figures) (before : List ℕ) (k
   dam-lead :
       {after : List ℕ}
       → LeadKept (released c.element c.own) (old_and_new_outflow old (released c.element c.own)) lead before after
-      → LeadWorked (old_and_new_outflow old) (Accepted (released c.element c.own)) c lead old before after
+      → LeadWorked (old_and_new_outflow old) (Ok (released c.element c.own)) c lead old before after
   unfolding AnsweredFiguresFit
   dam-lead kept =
-      lead-accepted c lead old before _ (Accepted (released c.element c.own)) refl answered _ refl (old_and_new_outflow old) kept
+      lead-accepted c lead old before _ (Ok (released c.element c.own)) refl answered _ refl (old_and_new_outflow old) kept
 
 pub dam-worked :
     (c : ElementInput) (here below : ℕ) (old : Figures) (before : List ℕ)
@@ -227,25 +226,25 @@ dam-worked c here below old before k in_range {after = after} is kept =
 
 -- a tank, a reach by itself
 module _
-    (noise weight : ℕ) (o : Observation) (here below : ℕ) (old : Figures) (before : List ℕ) (above : Figures) (r : FiguresAnswer)
+    (noise weight : ℕ) (o : Option RatedReading) (here below : ℕ) (old : Figures) (before : List ℕ) (above : Figures) (r : Result Figures Refusal)
     (read : above ≡ figures_at before here)
-    (worked : (figures_answer r ≡ stored_answer weight (tank_element noise) o (reach_inflow above) old) × AnsweredFiguresFit r) where
+    (worked : (answer_of r ≡ stored_answer weight (tank_element noise) o (reach_inflow above) old) × AnsweredFiguresFit r) where
   tank-answered :
       (number : ℕ)
-      → (figures_answer r
+      → (answer_of r
       ≡ element_answer weight (tank_element noise) (record { own = 0; lead = number; above = above; observation = o }) old)
       × AnsweredFiguresFit r
   tank-answered number = (worked.0 ∙ reach-answered _ _ _ _ refl, worked.1)
 
-  pub tank-refused : {k : Refusal} {after : List ℕ} → r ≡ Refused k → TankWorked (Refused AboveCeiling) noise weight o here below old before after
+  pub tank-refused : {k : Refusal} {after : List ℕ} → r ≡ Err k → TankWorked (Err AboveCeiling) noise weight o here below old before after
   tank-refused is =
       record { at = λ number. lead-refused (tank_input noise weight o) _ old before above r read (tank-answered number) is }
 
   pub tank-accepted :
       (x : Figures) {after : List ℕ}
-      → r ≡ Accepted x
+      → r ≡ Ok x
       → LeadKept x (old_and_new_outflow old x) (step_lead here below) before after
-      → TankWorked (Accepted x) noise weight o here below old before after
+      → TankWorked (Ok x) noise weight o here below old before after
   tank-accepted x is kept =
       record {
         at = λ number.
@@ -256,7 +255,7 @@ module _
 
 -- what the code of a tank relies on
 pub tank-ready :
-    {noise weight : ℕ} {o : Observation} {lead : Lead} {old : Figures} {space : List ℕ}
+    {noise weight : ℕ} {o : Option RatedReading} {lead : Lead} {old : Figures} {space : List ℕ}
     → LeadReady most_sum_before (tank_input noise weight o) lead old space
     → TankInRange noise weight old × ObservationFits o
 tank-ready h =

@@ -1,14 +1,14 @@
 -- Serves the code: what the code of one lead relies on, and what it has worked out.
-use Rattle.std.specs.Prelude.{ℕ, ◌+◌, ◌*◌, ◌≤◌, ◌<◌, List, ◌≢◌, ◌≡◌, length}
+use Rattle.rating.specs.declared.RatedReading.{RatedReading}
+use Rattle.refusal.specs.declared.Refusal.{Refusal}
+use Rattle.refusal.specs.Answers.{answer_of}
+use Rattle.std.specs.Prelude.{ℕ, ◌+◌, ◌*◌, ◌≤◌, ◌<◌, List, ◌≢◌, ◌≡◌, length, Result, Ok, Option}
 use Rattle.units.specs.Units.{C, S}
 use Rattle.units.specs.Ceiling.{under_ceiling}
 use Rattle.method.specs.declared.Figures.{Figures}
-use Rattle.method.specs.declared.FiguresAnswer.{FiguresAnswer}
-use Rattle.method.specs.declared.FiguresAnswer.TheVariants.{Accepted}
-use Rattle.method.specs.Figures.{figures_answer, FiguresFit}
+use Rattle.method.specs.Figures.{FiguresFit}
 use Rattle.method.specs.Inflow.{joined_inflow, old_and_new_outflow}
 use Rattle.elements.specs.Kinds.{dam}
-use Rattle.record.specs.declared.Observation.{Observation}
 use Rattle.record.specs.Decoded.{ObservationFits}
 use Rattle.element_step.specs.Bounds.{ElementInRange, tank_element}
 use Rattle.answer_space.specs.Places.{figures_at, FiguresBelow}
@@ -47,28 +47,28 @@ pub record LeadKept (x out : Figures) (lead : Lead) (before after : List ℕ) : 
 
 -- let_out: what is added at the place below, of the new figures
 pub record LeadWorked
-    (let_out : Figures → Figures) (r : FiguresAnswer) (c : ElementInput) (lead : Lead) (old : Figures) (before after : List ℕ)
+    (let_out : Figures → Figures) (r : Result Figures Refusal) (c : ElementInput) (lead : Lead) (old : Figures) (before after : List ℕ)
     : Type 0 where
   pub answer :
-      figures_answer r
+      answer_of r
       ≡ under_ceiling (lead_step_numbers c lead.number (figures_at before lead.here) old)
       (lead_step c lead.number (figures_at before lead.here) old)
-  pub kept : (x : Figures) → r ≡ Accepted x → LeadKept x (let_out x) lead before after
+  pub kept : (x : Figures) → r ≡ Ok x → LeadKept x (let_out x) lead before after
 
 -- so with the release of a dam, whatever the number of the lead
 pub record DamWorked (x : Figures) (c : ElementInput) (here below : ℕ) (old : Figures) (before after : List ℕ) : Type 0 where
   pub at :
       (number : ℕ)
-      → LeadWorked (old_and_new_outflow old) (Accepted x) c (record { number = number; here = here; below = below }) old before after
+      → LeadWorked (old_and_new_outflow old) (Ok x) c (record { number = number; here = here; below = below }) old before after
 
 -- what a tank is worked out from at a step or at any lead
-abbrev pub tank_input : ℕ → ℕ → Observation → ElementInput
+abbrev pub tank_input : ℕ → ℕ → Option RatedReading → ElementInput
 tank_input noise weight o =
     record { element = tank_element noise; weight = weight; own = 0; first_lead = 1; observation = o }
 
 -- so with a tank, whatever the number of the lead
 pub record TankWorked
-    (r : FiguresAnswer) (noise weight : ℕ) (o : Observation) (here below : ℕ) (old : Figures) (before after : List ℕ)
+    (r : Result Figures Refusal) (noise weight : ℕ) (o : Option RatedReading) (here below : ℕ) (old : Figures) (before after : List ℕ)
     : Type 0 where
   pub at :
       (number : ℕ)

@@ -5,16 +5,15 @@
 ghost use Rattle.std.specs.Prelude.{◌≢◌, ◌≡◌};
 ghost use Rattle.method.specs.Inflow.{old_and_new_outflow};
 ghost use Rattle.elements.specs.Kinds.{dam};
-ghost use Rattle.record.specs.declared.Observation.TheVariants.{Nothing};
 ghost use Rattle.answer_space.specs.Places.{most_sum, most_sum_before};
 ghost use Rattle.one_lead.specs.Worked.{step_lead, LeadReady, LeadWorked, DamWorked, tank_input, TankWorked};
 
+use rating::RatedReading;
 use answer_space::{add_figures, figures_at, put_and_add};
 use element_step::{Intake, dam_figures, lead_element, step_element, step_tank};
 use elements::Element;
 use inflow::old_outflow;
-use method::{Figures, FiguresAnswer};
-use record::Observation;
+use method::Figures;
 use refusal::Refusal;
 
 // What a step or a forecast works out one element from: itself, its weight, its own number (a basin's inflow from rain, a dam's release, 0
@@ -25,7 +24,7 @@ pub struct ElementInput {
     pub weight: u64,
     pub own: u64,
     pub first_lead: u64,
-    pub observation: Observation,
+    pub observation: Option<RatedReading>,
 }
 
 // One lead of an element: its number, and the places of the element and of the one below it.
@@ -38,8 +37,8 @@ pub struct Lead {
 
 // One lead of an element that stores water, from its figures before it: its figures, which now stand at its place, where what drains into it
 // stood.
-pub fn work_lead(input: ElementInput, lead: Lead, old: Figures, space: &mut [u64]) -> FiguresAnswer
-    requires { LeadReady most_sum_before input lead old space.old × ((input.observation ≡ Nothing) × (input.element.kind ≢ dam)) }
+pub fn work_lead(input: ElementInput, lead: Lead, old: Figures, space: &mut [u64]) -> Result<Figures, Refusal>
+    requires { LeadReady most_sum_before input lead old space.old × ((input.observation ≡ None) × (input.element.kind ≢ dam)) }
     ensures { LeadWorked (old_and_new_outflow old) result input lead old space.old space.new }
 {
     let above = figures_at(&*space, lead.here);
@@ -50,12 +49,10 @@ pub fn work_lead(input: ElementInput, lead: Lead, old: Figures, space: &mut [u64
         above,
         observation,
     };
-    let FiguresAnswer::Accepted(new) = lead_element(input.element, input.weight, intake, old) else {
-        return FiguresAnswer::Refused(Refusal::AboveCeiling);
-    };
+    let new = lead_element(input.element, input.weight, intake, old)?;
     add_figures(&mut *space, lead.below, old_outflow(old));
     put_and_add(&mut *space, lead.here, lead.below, new);
-    FiguresAnswer::Accepted(new)
+    Ok(new)
 }
 
 // One lead of a dam, from its figures before it: its figures, those of its release. (The old ones are added last: with them first the loop
@@ -83,7 +80,7 @@ pub fn work_step(
     below: usize,
     old: Figures,
     space: &mut [u64],
-) -> FiguresAnswer
+) -> Result<Figures, Refusal>
     requires { LeadReady most_sum input (step_lead here below) old space.old }
     ensures { LeadWorked (λ x. x) result input (step_lead here below) old space.old space.new }
 {
@@ -95,31 +92,27 @@ pub fn work_step(
         above,
         observation,
     };
-    let FiguresAnswer::Accepted(new) = step_element(input.element, input.weight, intake, old) else {
-        return FiguresAnswer::Refused(Refusal::AboveCeiling);
-    };
+    let new = step_element(input.element, input.weight, intake, old)?;
     put_and_add(&mut *space, here, below, new);
-    FiguresAnswer::Accepted(new)
+    Ok(new)
 }
 
 // One lead of a tank, in the same way as that of an element; a step is one lead.
 pub fn tank_lead(
     noise: u64,
     weight: u64,
-    observation: Observation,
+    observation: Option<RatedReading>,
     here: usize,
     below: usize,
     old: Figures,
     space: &mut [u64],
-) -> FiguresAnswer
+) -> Result<Figures, Refusal>
     requires { LeadReady most_sum_before (tank_input noise weight observation) (step_lead here below) old space.old }
     ensures { TankWorked result noise weight observation here below old space.old space.new }
 {
     let above = figures_at(&*space, here);
-    let FiguresAnswer::Accepted(new) = step_tank(noise, weight, observation, above, old) else {
-        return FiguresAnswer::Refused(Refusal::AboveCeiling);
-    };
+    let new = step_tank(noise, weight, observation, above, old)?;
     add_figures(&mut *space, below, old_outflow(old));
     put_and_add(&mut *space, here, below, new);
-    FiguresAnswer::Accepted(new)
+    Ok(new)
 }

@@ -1,13 +1,12 @@
 -- Document 02, M-101: "one look along the pieces, first to last .. it answers the same z or 14 as before, and with either the number of
 -- pieces it read"; M-105: "The curve now answers a discharge and a noise together."
+use Rattle.rating.specs.declared.RatedReading.{RatedReading}
 use Rattle.std.specs.Prelude.{ℕ, ◌+◌, ◌-◌, ◌≤◌, ◌<◌, cond, List, [], ◌∷◌, ◌≡◌, ltb, length, get_or}
 use Rattle.refusal.specs.Refusals.{number}
-use Rattle.refusal.specs.Answers.{Answer, accepted, refused}
+use Rattle.refusal.specs.Answers.{Answer, accepted, refused, answer_of}
 use Rattle.rating.specs.declared.Piece.{Piece}
-use Rattle.rating.specs.declared.RatingAnswer.{RatingAnswer}
-use Rattle.rating.specs.declared.RatingAnswer.TheVariants.{Accepted, Refused}
+use Rattle.rating.specs.declared.CurveLook.{CurveLook}
 use Rattle.rating.specs.Rating.{piece_for, no_piece}
-use Rattle.rating.specs.Noise.{RatedReading}
 
 -- "the number of the piece that 01 takes", counted from 1: of "the first piece with stage below its top" (`piece_for`). In an accepted table
 -- there is always one.
@@ -20,10 +19,9 @@ pub record Look : Type 0 where
   pub answer : Answer RatedReading
   pub pieces : ℕ
 
--- the number and the values of each case of the code's answer
-abbrev pub look_of : RatingAnswer → Look
-look_of (Accepted z noise pieces) = record { answer = accepted (record { discharge = z; noise = noise }); pieces = pieces }
-look_of (Refused r pieces) = record { answer = refused (number r); pieces = pieces }
+-- what the code finds: the values as they are, the number of a refusal
+abbrev pub look_of : CurveLook → Look
+look_of look = record { answer = answer_of look.rated; pieces = look.pieces }
 
 -- piece k, counted from 1, is the piece that document 01 takes: one of the pieces, the one that `piece_for` answers; the stage is below its
 -- top and not below the top of any piece before it

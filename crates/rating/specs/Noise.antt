@@ -13,11 +13,6 @@ deviation beta z = beta * z / 1000000
 unfoldable pub noise_of : ℕ → ℕ → ℕ → ℕ
 noise_of R beta z = let t : ℕ = deviation beta z in R + t * t / 1000
 
--- "The curve now answers a discharge and a noise together."
-pub record RatedReading : Type 0 where
-  pub discharge : Discharge
-  pub noise : Variance
-
 -- "This noise, from the whole-number z": of what the curve gives a stage, z or 14
 unfoldable pub with_noise : Variance → ℕ → Answer Discharge → Answer RatedReading
 with_noise R beta (accepted z) = accepted (record { discharge = z; noise = thousandths (noise_of R.0 beta z.0) })

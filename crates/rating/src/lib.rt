@@ -2,14 +2,14 @@
 #![tactic(auto)]
 
 ghost use Rattle.std.specs.Prelude.{◌≡◌, ◌≤◌};
+ghost use Rattle.refusal.specs.Answers.{answer_of};
 ghost use Rattle.units.specs.Units.{C};
-ghost use Rattle.units.specs.Answers.{discharge_answer};
 ghost use Rattle.rating.specs.Rating.{discharge_at, on_piece, PieceFits};
 ghost use Rattle.rating.specs.Noise.{noise_of};
 ghost use Rattle.rating.specs.Bounds.{NoiseInRange};
 
 use refusal::Refusal;
-use units::{Discharge, DischargeAnswer, Stage, Variance};
+use units::{Discharge, Stage, Variance};
 
 // b of a piece, in millimetres of either sign.
 #[derive(Clone, Copy)]
@@ -33,36 +33,39 @@ pub struct Curve {
     pub pieces: [Piece; 5],
 }
 
-// What one look along a curve finds: the discharge of the stage and the noise of a reading there, or the refusal of it, and with either how
-// many pieces were read.
+// A rated stage: its discharge, and the noise of a reading there.
 #[derive(Clone, Copy)]
-pub enum RatingAnswer {
-    Accepted(Discharge, Variance, usize),
-    Refused(Refusal, usize),
+pub struct RatedReading {
+    pub discharge: Discharge,
+    pub noise: Variance,
+}
+
+// What one look along a curve finds: the rated stage or its refusal, and with either how many pieces were read.
+#[derive(Clone, Copy)]
+pub struct CurveLook {
+    pub rated: Result<RatedReading, Refusal>,
+    pub pieces: usize,
 }
 
 // The discharge of the depth h + b on a piece with the factor a.
-fn discharge_at(factor: u64, depth: u64) -> DischargeAnswer
+fn discharge_at(factor: u64, depth: u64) -> Result<Discharge, Refusal>
     requires { (factor ≤ 1000000) × (depth ≤ 60000) }
-    ensures { discharge_answer result ≡ discharge_at factor depth }
+    ensures { answer_of result ≡ discharge_at factor depth }
 {
-    let DischargeAnswer::Accepted(z) = Discharge::new(factor * (depth * depth) / 1_000) else {
-        return DischargeAnswer::Refused(Refusal::ReadingRange);
-    };
-    DischargeAnswer::Accepted(z)
+    Discharge::new(factor * (depth * depth) / 1_000).map_err(|_| Refusal::ReadingRange)
 }
 
 // The discharge of a stage on a piece.
-pub fn rate_on_piece(stage: u64, piece: Piece) -> DischargeAnswer
+pub fn rate_on_piece(stage: u64, piece: Piece) -> Result<Discharge, Refusal>
     requires { (stage ≤ 30000) × PieceFits piece }
-    ensures { discharge_answer result ≡ on_piece stage piece }
+    ensures { answer_of result ≡ on_piece stage piece }
 {
     let offset = piece.offset;
     match offset {
         Offset::Plus(b) => discharge_at(piece.factor, stage + b),
         Offset::Minus(b) => {
             if stage < b {
-                return DischargeAnswer::Refused(Refusal::ReadingRange);
+                return Err(Refusal::ReadingRange);
             }
             discharge_at(piece.factor, stage - b)
         }

@@ -1,4 +1,5 @@
 -- Laws of a step or a trial by a record: its rules in checking order after rule 8, and the state that a step leaves.
+use Rattle.std.specs.Prelude.{Result, Ok, Err}
 use Prim.{Unit}
 use Prim.Native.Nat.{ℕ, ◌+◌, ◌*◌, ◌≤◌, ◌<◌}
 use mathlib.Core.Bool.{Bool, true, false}
@@ -9,13 +10,10 @@ use native.Mathlib.Omega.{arith}
 use lib.ListN.{length, replicate, length-replicate}
 use Rattle.sizes.specs.Sizes.{most_elements, most_places, state_numbers}
 use Rattle.fields.specs.Ranges.{all_below}
-use Rattle.refusal.specs.Answers.{and_then, accepted, refused}
+use Rattle.refusal.specs.Answers.{and_then, accepted, refused, answer_of}
 use Rattle.refusal.proofs.RuleLaws.{not-both, rule-then}
 use Rattle.refusal.specs.declared.Refusal.{Refusal}
 use Rattle.refusal.specs.declared.Refusal.TheVariants.{StepLimit, AnswerSpace}
-use Rattle.refusal.specs.declared.Verdict.{Verdict}
-use Rattle.refusal.specs.declared.Verdict.TheVariants.{Accepted, Refused}
-use Rattle.refusal.specs.Verdicts.{verdict_answer}
 use Rattle.table.specs.declared.Counts.{Counts}
 use Rattle.table.specs.Tables.{TableValues}
 use Rattle.table.specs.Bounds.{AcceptedTable, CountedPlaces}
@@ -47,23 +45,23 @@ use Rattle.record_step.specs.Judged.{RiverGiven, StepJudged, worked_answer, Reco
 
 module _ (t : TableValues) (bytes : List ℕ) (s : State) (h : state_fits t s ≡ true) (whole : length s ≡ state_numbers) {observed : List ℕ} where
   -- 9
-  pub limit-judged : steps_left s ≡ false → StepJudged t bytes s (Refused StepLimit) observed
+  pub limit-judged : steps_left s ≡ false → StepJudged t bytes s (Err StepLimit) observed
   unfolding step_rules
   limit-judged l =
       record {
         decided = rw (h, l);
-        kept = λ e. absurd (not-both (ap verdict_answer e) refl);
-        held = λ e. absurd (not-both (ap verdict_answer e) refl);
+        kept = λ e. absurd (not-both (ap answer_of e) refl);
+        held = λ e. absurd (not-both (ap answer_of e) refl);
         whole = whole;
       }
 
   -- the record's own
-  pub record-judged : {v : Verdict} → steps_left s ≡ true → RecordRead t bytes v observed → StepJudged t bytes s v observed
+  pub record-judged : {v : Result Unit Refusal} → steps_left s ≡ true → RecordRead t bytes v observed → StepJudged t bytes s v observed
   unfolding step_rules
   record-judged {v} l r = record { decided = rw (h, l) r.decided; kept = kept; held = λ e. r.held (kept e); whole = whole }
     where
-      kept : v ≡ Accepted → record_rules {A = Unit} t bytes (accepted tt) ≡ accepted tt
-      kept e = sym r.decided ∙ ap verdict_answer e
+      kept : v ≡ (Ok tt) → record_rules {A = Unit} t bytes (accepted tt) ≡ accepted tt
+      kept e = sym r.decided ∙ ap answer_of e
 
 -- ---- all rules, whatever the answer holds
 
@@ -78,38 +76,38 @@ module _ {A : Type 0} (t : TableValues) (bytes : List ℕ) (s : State) (lent : �
   pub worked-refused : {k : ℕ} → worked_answer {A = Unit} t bytes s lent tt ≡ refused k → worked_answer t bytes s lent a ≡ refused k
   worked-refused h = rw (← worked_then, h)
 
-none_passes : (under : Bool) → under_verdict under ≡ Accepted → under ≡ true
+none_passes : (under : Bool) → under_verdict under ≡ (Ok tt) → under ≡ true
 unfolding under_verdict
 none_passes true e = refl
-none_passes false e = absurd (not-both (ap verdict_answer e) refl)
+none_passes false e = absurd (not-both (ap answer_of e) refl)
 
 -- what the verdict before 15 and 16 says of them
-module _ (t : TableValues) (bytes : List ℕ) (s : State) {v : Verdict} {observed : List ℕ} (h : StepJudged t bytes s v observed) where
+module _ (t : TableValues) (bytes : List ℕ) (s : State) {v : Result Unit Refusal} {observed : List ℕ} (h : StepJudged t bytes s v observed) where
   -- a refusal before them
-  pub refused-before : {lent : ℕ} {k : Refusal} {space : List ℕ} → v ≡ Refused k → RecordWorked v space t bytes s lent
+  pub refused-before : {lent : ℕ} {k : Refusal} {space : List ℕ} → v ≡ Err k → RecordWorked v space t bytes s lent
   unfolding worked_answer
   refused-before e =
       record {
-        decided = ap verdict_answer e ∙ sym (step-rules.step-refused t bytes s _ (sym h.decided ∙ ap verdict_answer e));
-        kept = λ a. absurd (not-both (ap verdict_answer a) (ap verdict_answer e));
-        enough = λ a. absurd (not-both (ap verdict_answer a) (ap verdict_answer e));
-        held = λ a. absurd (not-both (ap verdict_answer a) (ap verdict_answer e));
+        decided = ap answer_of e ∙ sym (step-rules.step-refused t bytes s _ (sym h.decided ∙ ap answer_of e));
+        kept = λ a. absurd (not-both (ap answer_of a) (ap answer_of e));
+        enough = λ a. absurd (not-both (ap answer_of a) (ap answer_of e));
+        held = λ a. absurd (not-both (ap answer_of a) (ap answer_of e));
         whole = h.whole;
       }
 
-  module _ (accepts : v ≡ Accepted) where
+  module _ (accepts : v ≡ (Ok tt)) where
     judged : step_rules {A = Unit} t bytes s (accepted tt) ≡ accepted tt
-    judged = sym h.decided ∙ ap verdict_answer accepts
+    judged = sym h.decided ∙ ap answer_of accepts
 
     -- 15
-    pub space-short : {lent : ℕ} {space : List ℕ} → lent < 4 * t.elements → RecordWorked (Refused AnswerSpace) space t bytes s lent
+    pub space-short : {lent : ℕ} {space : List ℕ} → lent < 4 * t.elements → RecordWorked (Err AnswerSpace) space t bytes s lent
     unfolding worked_answer trial_space_fits
     space-short l =
         record {
           decided = sym (step-rules.step-accepted t bytes s _ judged ∙ rw (lt-leb _ _ l));
-          kept = λ a. absurd (not-both (ap verdict_answer a) refl);
-          enough = λ a. absurd (not-both (ap verdict_answer a) refl);
-          held = λ a. absurd (not-both (ap verdict_answer a) refl);
+          kept = λ a. absurd (not-both (ap answer_of a) refl);
+          enough = λ a. absurd (not-both (ap answer_of a) refl);
+          held = λ a. absurd (not-both (ap answer_of a) refl);
           whole = h.whole;
         }
 
@@ -124,7 +122,7 @@ module _ (t : TableValues) (bytes : List ℕ) (s : State) {v : Verdict} {observe
     after-judged answer l w f =
         record {
           decided =
-              ap (λ (u : Bool). verdict_answer (under_verdict u)) (sym f)
+              ap (λ (u : Bool). answer_of (under_verdict u)) (sym f)
               ∙ (w.decided ∙ sym (step-rules.step-accepted t bytes s _ judged ∙ rw (le-leb _ _ l)));
           kept = λ _. h.kept accepts;
           enough = λ _. l;
@@ -143,20 +141,20 @@ unfolding worked_answer trial_space_fits step_on_answer
 step-answer t bytes s e = rw (e, le-leb (4 * t.elements) (4 * t.elements) (omega arith))
 
 module _
-    (t : TableValues) (bytes : List ℕ) (s : State) {v : Verdict} {space : List ℕ} {lent : ℕ} (h : RecordWorked v space t bytes s lent)
+    (t : TableValues) (bytes : List ℕ) (s : State) {v : Result Unit Refusal} {space : List ℕ} {lent : ℕ} (h : RecordWorked v space t bytes s lent)
     (all : lent ≡ 4 * t.elements) where
-  pub written-refused : {k : Refusal} → v ≡ Refused k → Answered v s (step_on_answer t bytes s) s
+  pub written-refused : {k : Refusal} → v ≡ Err k → Answered v s (step_on_answer t bytes s) s
   written-refused e =
-      answered-refused e (sym (step-answer t bytes s all) ∙ worked-refused t bytes s lent _ (sym h.decided ∙ ap verdict_answer e)) refl
+      answered-refused e (sym (step-answer t bytes s all) ∙ worked-refused t bytes s lent _ (sym h.decided ∙ ap answer_of e)) refl
 
-  pub written-accepted : {after : State} → v ≡ Accepted → after ≡ stepped t (input_at (cells t) bytes) s → Answered Accepted after (step_on_answer t bytes s) s
+  pub written-accepted : {after : State} → v ≡ (Ok tt) → after ≡ stepped t (input_at (cells t) bytes) s → Answered (Ok tt) after (step_on_answer t bytes s) s
   written-accepted e a =
-      answered-accepted refl (sym (step-answer t bytes s all) ∙ worked-accepted t bytes s lent _ (sym h.decided ∙ ap verdict_answer e)) a
+      answered-accepted refl (sym (step-answer t bytes s all) ∙ worked-accepted t bytes s lent _ (sym h.decided ∙ ap answer_of e)) a
 
 -- ---- the state in two parts
 
 module _
-    {v : Verdict} {table bytes space : List ℕ} {n extra : ℕ} {s middle : State} (g : WriteGiven v table n extra bytes space s) (accepts : v ≡ Accepted)
+    {v : Result Unit Refusal} {table bytes space : List ℕ} {n extra : ℕ} {s middle : State} (g : WriteGiven v table n extra bytes space s) (accepts : v ≡ (Ok tt))
     (tanks : TanksWritten n extra space s middle) where
   -- what the elements' part relies on after the tanks'
   pub elements-ready : WriteReady table n bytes space middle
@@ -169,7 +167,7 @@ module _
         steps = omega (arith, tanks-steps n extra space s middle tanks, (state-bounds _ _ g.fits).steps);
       }
 
-  pub both-written : {after : State} → ElementsWritten table bytes space middle after → Answered Accepted after (step_on_answer (table_in table) bytes s) s
+  pub both-written : {after : State} → ElementsWritten table bytes space middle after → Answered (Ok tt) after (step_on_answer (table_in table) bytes s) s
   both-written {after} elements =
       written-accepted _ _ _ g.worked (ap (λ (m : ℕ). 4 * m) g.elements) accepts
       (written-in-parts table bytes space s middle after g.accepts.bounds g.worked.whole (g.worked.held accepts) g.elements g.extra_all tanks
@@ -197,13 +195,13 @@ places-few c = omega (arith, c.counted.held.elements, c.extra, c.counted.table.b
 
 -- what the network is worked out of, once the rules before 15 accept
 pub work-ready :
-    {table : List ℕ} {basins : ℕ} {weight bytes observed : List ℕ} {s : State} {v : Verdict}
+    {table : List ℕ} {basins : ℕ} {weight bytes observed : List ℕ} {s : State} {v : Result Unit Refusal}
     → AcceptedTable table
     → basins ≡ basin_count (table_in table)
     → WeightsHeld (table_in table) weight
     → state_fits (table_in table) s ≡ true
     → StepJudged (table_in table) bytes s v observed
-    → v ≡ Accepted
+    → v ≡ (Ok tt)
     → 2 * (table_in table).gauges ≤ length observed
     → StepReady table basins weight bytes observed s
 work-ready accepts counted weights fits j e room =

@@ -1,11 +1,9 @@
 -- Serves the code: what a step or a trial by a record relies on, and what each part of it leaves.
+use Rattle.refusal.specs.declared.Refusal.{Refusal}
 use Prim.{Unit}
-use Rattle.std.specs.Prelude.{ℕ, ◌+◌, ◌*◌, ◌≤◌, true, List, ◌≡◌, length}
+use Rattle.std.specs.Prelude.{ℕ, ◌+◌, ◌*◌, ◌≤◌, true, List, ◌≡◌, length, Result, Ok}
 use Rattle.sizes.specs.Sizes.{state_numbers, step_space}
-use Rattle.refusal.specs.Answers.{Answer, accepted, rule}
-use Rattle.refusal.specs.declared.Verdict.{Verdict}
-use Rattle.refusal.specs.declared.Verdict.TheVariants.{Accepted}
-use Rattle.refusal.specs.Verdicts.{verdict_answer}
+use Rattle.refusal.specs.Answers.{Answer, accepted, rule, answer_of}
 use Rattle.units.specs.Ceiling.{under_ceiling}
 use Rattle.table.specs.declared.Counts.{Counts}
 use Rattle.table.specs.Tables.{TableValues}
@@ -41,10 +39,10 @@ pub record JudgeReady (table : List ℕ) (counts : Counts) (s : State) (observed
 
 -- the rules before 15 and 16 decide; where they accept, so do the record's, and what its gauges observed is held; the state has all its
 -- numbers
-pub record StepJudged (t : TableValues) (bytes : List ℕ) (s : State) (verdict : Verdict) (observed : List ℕ) : Type 0 where
-  pub decided : verdict_answer verdict ≡ step_rules t bytes s (accepted tt)
-  pub kept : verdict ≡ Accepted → record_rules {A = Unit} t bytes (accepted tt) ≡ accepted tt
-  pub held : verdict ≡ Accepted → HoldsObservations observed t bytes t.gauges
+pub record StepJudged (t : TableValues) (bytes : List ℕ) (s : State) (verdict : Result Unit Refusal) (observed : List ℕ) : Type 0 where
+  pub decided : answer_of verdict ≡ step_rules t bytes s (accepted tt)
+  pub kept : verdict ≡ (Ok tt) → record_rules {A = Unit} t bytes (accepted tt) ≡ accepted tt
+  pub held : verdict ≡ (Ok tt) → HoldsObservations observed t bytes t.gauges
   pub whole : length s ≡ state_numbers
 
 -- the rules that a step and a trial have from 8 on, in checking order, where so many numbers are lent for the figures: 15 before 16. A step
@@ -61,15 +59,15 @@ pub record RecordGiven (table : List ℕ) (basins dams : ℕ) (s : State) (own o
   pub room : 2 * (table_in table).gauges ≤ length observed
 
 -- all rules decide; where they accept, the new figures stand in the working space
-pub record RecordWorked (verdict : Verdict) (space : List ℕ) (t : TableValues) (bytes : List ℕ) (s : State) (lent : ℕ) : Type 0 where
-  pub decided : verdict_answer verdict ≡ worked_answer t bytes s lent tt
-  pub kept : verdict ≡ Accepted → record_rules {A = Unit} t bytes (accepted tt) ≡ accepted tt
-  pub enough : verdict ≡ Accepted → 4 * t.elements ≤ lent
-  pub held : verdict ≡ Accepted → FiguresHeld space t bytes s
+pub record RecordWorked (verdict : Result Unit Refusal) (space : List ℕ) (t : TableValues) (bytes : List ℕ) (s : State) (lent : ℕ) : Type 0 where
+  pub decided : answer_of verdict ≡ worked_answer t bytes s lent tt
+  pub kept : verdict ≡ (Ok tt) → record_rules {A = Unit} t bytes (accepted tt) ≡ accepted tt
+  pub enough : verdict ≡ (Ok tt) → 4 * t.elements ≤ lent
+  pub held : verdict ≡ (Ok tt) → FiguresHeld space t bytes s
   pub whole : length s ≡ state_numbers
 
 -- what writing the state relies on
-pub record WriteGiven (verdict : Verdict) (table : List ℕ) (n extra : ℕ) (bytes space : List ℕ) (s : State) : Type 0 where
+pub record WriteGiven (verdict : Result Unit Refusal) (table : List ℕ) (n extra : ℕ) (bytes space : List ℕ) (s : State) : Type 0 where
   pub accepts : AcceptedTable table
   pub elements : n ≡ (table_in table).elements
   pub extra_all : extra ≡ extra_count (table_in table)

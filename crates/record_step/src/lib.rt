@@ -15,12 +15,8 @@ use answer_space::clear;
 use element_weights::put_weights;
 use network_step::work_step;
 use next_state::{write_state, write_tanks};
-use refusal::{Refusal, Verdict};
-use sizes::{
-    MEDIUM_PLACES, MEDIUM_STEP_SPACE, MIDDLE_ELEMENTS, MIDDLE_STEP_SPACE, MOST_ELEMENTS,
-    OBSERVED_NUMBERS, SMALL_ELEMENTS, SMALL_OBSERVED_NUMBERS, SMALL_STEP_SPACE, STATE_NUMBERS,
-    STEP_SPACE,
-};
+use refusal::Refusal;
+use sizes::{MEDIUM_PLACES, MEDIUM_STEP_SPACE, MIDDLE_ELEMENTS, MIDDLE_STEP_SPACE, MOST_ELEMENTS, OBSERVED_NUMBERS, SMALL_ELEMENTS, SMALL_OBSERVED_NUMBERS, SMALL_STEP_SPACE, STATE_NUMBERS, STEP_SPACE};
 use table::Counts;
 
 // The rules of a step before 15 and 16 on an accepted table and the bytes of a record, from a state that rule 8 accepts: 9 to 14, 17 and 18;
@@ -31,12 +27,12 @@ fn judge_step(
     bytes: &[u8],
     state: &[u64; STATE_NUMBERS],
     observed: &mut [u64],
-) -> Verdict
+) -> Result<(), Refusal>
     requires { JudgeReady table.now counts state.now observed.old }
     ensures { StepJudged (table_in table.now) bytes.now state.now result observed.new }
 {
     if !state::steps_left(state) {
-        return Verdict::Refused(Refusal::StepLimit);
+        return Err(Refusal::StepLimit);
     }
     record_reader::read(bytes, table, counts, observed)
 }
@@ -54,63 +50,60 @@ pub fn work_record(
     own: &mut [u64],
     observed: &mut [u64],
     space: &mut [u64],
-) -> Verdict
+) -> Result<(), Refusal>
     requires { RecordGiven table.now basins dams state.now own.old observed.old × Cleared (place_count (table_in table.now)) space.old }
     ensures { RecordWorked result space.new (table_in table.now) bytes.now state.now lent }
 {
     let counts = table::counts_with(table, basins, dams);
-    let verdict = judge_step(table, counts, bytes, state, &mut *observed);
-    let Verdict::Accepted = verdict else {
-        return verdict;
-    };
+    judge_step(table, counts, bytes, state, &mut *observed)?;
     if lent < 4 * counts.elements {
-        return Verdict::Refused(Refusal::AnswerSpace);
+        return Err(Refusal::AnswerSpace);
     }
     put_weights(table, counts.step, counts.elements, &mut *own);
     if !work_step(table, basins, &*own, bytes, &*observed, state, &mut *space) {
-        return Verdict::Refused(Refusal::AboveCeiling);
+        return Err(Refusal::AboveCeiling);
     }
-    Verdict::Accepted
+    Ok(())
 }
 
 // The state after the step, where it is accepted.
 fn write_accepted(
-    verdict: Verdict,
+    verdict: Result<(), Refusal>,
     table: &[u8],
     n: usize,
     bytes: &[u8],
     space: &[u64],
     state: &mut [u64; STATE_NUMBERS],
-) -> Verdict
+) -> Result<(), Refusal>
     requires { WriteGiven verdict table.now n 0 bytes.now space.now state.old }
     ensures { Answered result state.new (step_on_answer (table_in table.now) bytes.now state.old) state.old }
 {
-    let Verdict::Accepted = verdict else {
+    let Ok(()) = verdict else {
         return verdict;
     };
     write_state(table, n, bytes, space, state);
-    Verdict::Accepted
+    Ok(())
 }
 
 // The same where there may be tanks above the last of their elements, so many.
 fn write_tanked(
-    verdict: Verdict,
+    verdict: Result<(), Refusal>,
     table: &[u8],
     n: usize,
     extra: usize,
     bytes: &[u8],
     space: &[u64],
     state: &mut [u64; STATE_NUMBERS],
-) -> Verdict
+) -> Result<(), Refusal>
     requires { WriteGiven verdict table.now n extra bytes.now space.now state.old }
     ensures { Answered result state.new (step_on_answer (table_in table.now) bytes.now state.old) state.old }
 {
-    let Verdict::Accepted = verdict else {
+    let Ok(()) = verdict else {
         return verdict;
     };
     write_tanks(n, extra, space, &mut *state);
     write_state(table, n, bytes, space, state);
-    Verdict::Accepted
+    Ok(())
 }
 
 // The whole step in the working space of each size; of the smaller ones where there are no tanks.
@@ -121,7 +114,7 @@ fn step_small(
     dams: usize,
     bytes: &[u8],
     state: &mut [u64; STATE_NUMBERS],
-) -> Verdict
+) -> Result<(), Refusal>
     requires { RiverGiven table.now n 0 basins dams state.old × (n ≤ small_elements) }
     ensures { Answered result state.new (step_on_answer (table_in table.now) bytes.now state.old) state.old }
 {
@@ -149,7 +142,7 @@ fn step_middle(
     dams: usize,
     bytes: &[u8],
     state: &mut [u64; STATE_NUMBERS],
-) -> Verdict
+) -> Result<(), Refusal>
     requires { RiverGiven table.now n 0 basins dams state.old × (n ≤ middle_elements) }
     ensures { Answered result state.new (step_on_answer (table_in table.now) bytes.now state.old) state.old }
 {
@@ -178,7 +171,7 @@ fn step_medium(
     dams: usize,
     bytes: &[u8],
     state: &mut [u64; STATE_NUMBERS],
-) -> Verdict
+) -> Result<(), Refusal>
     requires { RiverGiven table.now n extra basins dams state.old × (n + extra ≤ medium_places) }
     ensures { Answered result state.new (step_on_answer (table_in table.now) bytes.now state.old) state.old }
 {
@@ -209,7 +202,7 @@ fn step_large(
     bytes: &[u8],
     state: &mut [u64; STATE_NUMBERS],
     again: bool,
-) -> Verdict
+) -> Result<(), Refusal>
     requires { RiverGiven table.now n extra basins dams state.old }
     ensures { Answered result state.new (step_on_answer (table_in table.now) bytes.now state.old) state.old }
 {
@@ -240,7 +233,7 @@ pub fn step_from(
     counts: Counts,
     bytes: &[u8],
     state: &mut [u64; STATE_NUMBERS],
-) -> Verdict
+) -> Result<(), Refusal>
     requires { CountedPlaces table.now counts × (state_fits (table_in table.now) state.old ≡ true) }
     ensures { Answered result state.new (step_on_answer (table_in table.now) bytes.now state.old) state.old }
 {
@@ -270,17 +263,14 @@ fn step_in(
     bytes: &[u8],
     space: &mut [u64],
     state: &mut [u64; STATE_NUMBERS],
-) -> Verdict
+) -> Result<(), Refusal>
     requires { LentGiven table.now counts weights.now space.old state.old }
     ensures { Answered result state.new (step_on_answer (table_in table.now) bytes.now state.old) state.old }
 {
     let n = counts.elements;
     let extra = counts.extra;
     let mut observed = [0u64; OBSERVED_NUMBERS];
-    let verdict = judge_step(table, counts, bytes, &*state, &mut observed);
-    let Verdict::Accepted = verdict else {
-        return verdict;
-    };
+    judge_step(table, counts, bytes, &*state, &mut observed)?;
     let room = 4 * (n + extra + 1);
     let part = &mut space[..room];
     clear(&mut *part);
@@ -293,11 +283,11 @@ fn step_in(
         &*state,
         &mut *part,
     ) {
-        return Verdict::Refused(Refusal::AboveCeiling);
+        return Err(Refusal::AboveCeiling);
     }
     write_tanks(n, extra, &*part, &mut *state);
     write_state(table, n, bytes, &*part, state);
-    Verdict::Accepted
+    Ok(())
 }
 
 // The same as a function that calls itself once, so that the compiler does not put it into the loop of its caller.
@@ -309,7 +299,7 @@ pub fn step_lent(
     space: &mut [u64],
     state: &mut [u64; STATE_NUMBERS],
     again: bool,
-) -> Verdict
+) -> Result<(), Refusal>
     requires { LentGiven table.now counts weights.now space.old state.old }
     ensures { Answered result state.new (step_on_answer (table_in table.now) bytes.now state.old) state.old }
 {

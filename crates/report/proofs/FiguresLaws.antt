@@ -1,4 +1,5 @@
 -- Laws of the figures that a forecast answers, and of the numbers that it leaves in its space.
+use Rattle.std.specs.Prelude.{Result, Ok, Err}
 use Prim.Native.Nat.{ℕ, ◌+◌, ◌*◌, ◌-◌, ◌≤◌}
 use mathlib.Core.Bool.{true}
 use mathlib.Core.List.{List, ◌++◌}
@@ -9,7 +10,7 @@ use lib.ListN.{length, take, drop, length-drop, take-append-drop, get_or-append}
 use lib.Seq.{take_all}
 use Rattle.sizes.specs.Sizes.{most_elements, most_leads, answer_numbers, forecast_space}
 use Rattle.refusal.specs.Refusals.{number}
-use Rattle.refusal.specs.Answers.{Answer, accepted, refused}
+use Rattle.refusal.specs.Answers.{Answer, accepted, refused, answer_of}
 use Rattle.refusal.specs.declared.Refusal.{Refusal}
 use Rattle.refusal.proofs.RuleLaws.{not-both}
 use Rattle.method.specs.declared.Figures.{Figures}
@@ -18,10 +19,8 @@ use Rattle.cells.specs.Cells.{last_cell}
 use Rattle.state.specs.States.{State}
 use Rattle.state.specs.Rules.{state_fits}
 use Rattle.network.specs.Forecast.{lead_figures}
-use Rattle.network.specs.declared.ForecastAnswer.{ForecastAnswer}
-use Rattle.network.specs.declared.ForecastAnswer.TheVariants.{Accepted, Refused}
 use Rattle.network.specs.Answer.{forecast_figures, leads_answer}
-use Rattle.network.specs.Lent.{layout, count_answer, count_written}
+use Rattle.network.specs.Lent.{layout, count_written}
 use Rattle.network.proofs.LayoutLaws.{layout-length, by-lead-length}
 use Rattle.entries.specs.Entries.{forecast_on_answer}
 use Rattle.entries.proofs.ForecastLaws.{forecasting-on, answer-under}
@@ -54,10 +53,10 @@ module _ (t : TableValues) (s : State) (fits : state_fits t s ≡ true) where
   unfolding forecast_on_answer
   rule-8-kept = rw fits
 
-  module _ (r : ForecastAnswer) (space : List ℕ) (h : ForecastHeld r space t s) where
+  module _ (r : Result ℕ Refusal) (space : List ℕ) (h : ForecastHeld r space t s) where
     pub forecast-shown :
         {count : ℕ} (numbers : List ℕ)
-        → r ≡ Accepted count
+        → r ≡ Ok count
         → numbers ≡ drop (4 * (t.leads + 1)) space
         → ForecastShown t s numbers
     unfolding count_written
@@ -66,7 +65,7 @@ module _ (t : TableValues) (s : State) (fits : state_fits t s ≡ true) where
         go :
             (answer : Answer (List Figures))
             → leads_answer t s answer_numbers ≡ answer
-            → count_answer r ≡ count_written answer
+            → answer_of r ≡ count_written answer
             → ForecastShown t s numbers
         go (accepted fs) a _ =
             let all : forecast_on_answer t s answer_numbers ≡ accepted fs = rule-8-kept ∙ a in
@@ -78,16 +77,16 @@ module _ (t : TableValues) (s : State) (fits : state_fits t s ≡ true) where
                   ap (λ (l : List ℕ). l ++ drop (length (layout fs)) numbers) (sym k) ∙ take-append-drop (length (layout fs)) numbers;
               counted = figures-count t s answer_numbers fs all;
             }
-        go (refused n) a c = absurd (not-both (ap count_answer e) c)
+        go (refused n) a c = absurd (not-both (ap answer_of e) c)
 
     -- a refused forecast
-    pub forecast-not-shown : {k : Refusal} → r ≡ Refused k → forecast_on_answer t s answer_numbers ≡ refused (number k)
+    pub forecast-not-shown : {k : Refusal} → r ≡ Err k → forecast_on_answer t s answer_numbers ≡ refused (number k)
     unfolding count_written
     forecast-not-shown {k} e = rule-8-kept ∙ go (leads_answer t s answer_numbers) h.count
       where
-        go : (answer : Answer (List Figures)) → count_answer r ≡ count_written answer → answer ≡ refused (number k)
-        go (accepted fs) c = absurd (not-both c (ap count_answer e))
-        go (refused n) c = let b : count_answer r ≡ refused (number k) = ap count_answer e in cc
+        go : (answer : Answer (List Figures)) → answer_of r ≡ count_written answer → answer ≡ refused (number k)
+        go (accepted fs) c = absurd (not-both c (ap answer_of e))
+        go (refused n) c = let b : answer_of r ≡ refused (number k) = ap answer_of e in cc
 
 -- the numbers that are printed are at most C each
 pub shown-under :

@@ -1,4 +1,5 @@
 -- Laws of what a record prints.
+use Rattle.std.specs.Prelude.{Result, Ok, Err}
 use Prim.{Unit}
 use Prim.Native.Nat.{ℕ, ◌+◌, ◌*◌, ◌≤◌}
 use mathlib.Core.Bool.{true, false}
@@ -11,8 +12,6 @@ use Rattle.sizes.specs.Sizes.{most_elements, most_leads, state_numbers, answer_n
 use Rattle.refusal.specs.Refusals.{number}
 use Rattle.refusal.specs.Answers.{Answer, accepted, refused}
 use Rattle.refusal.specs.declared.Refusal.{Refusal}
-use Rattle.refusal.specs.declared.Verdict.{Verdict}
-use Rattle.refusal.specs.declared.Verdict.TheVariants.{Accepted, Refused}
 use Rattle.method.specs.declared.Figures.{Figures}
 use Rattle.table.specs.Bounds.{AcceptedBounds}
 use Rattle.table.specs.InUse.{table_in}
@@ -95,7 +94,7 @@ refusal-state : (s : State) (n : ℕ) → s ≡ (refusal_printed s n).state
 unfolding refusal_printed
 refusal-state s n = refl
 
-module _ (t : TableValues) (bytes : List ℕ) (s after : State) (v : Verdict) (h : Answered v after (step_on_answer t bytes s) s) where
+module _ (t : TableValues) (bytes : List ℕ) (s after : State) (v : Result Unit Refusal) (h : Answered v after (step_on_answer t bytes s) s) where
   -- the state is as long as before
   pub step-length : AcceptedBounds t → length s ≡ state_numbers → length after ≡ state_numbers
   unfolding state_after
@@ -106,18 +105,18 @@ module _ (t : TableValues) (bytes : List ℕ) (s after : State) (v : Verdict) (h
       go (refused n) e k = rw k full
 
   -- an accepted step, and the forecast after it
-  step-accepted : v ≡ Accepted → forecast_printed t after (forecast_on_answer t after answer_numbers) ≡ record_on_printed t bytes s
+  step-accepted : v ≡ (Ok tt) → forecast_printed t after (forecast_on_answer t after answer_numbers) ≡ record_on_printed t bytes s
   unfolding record_on_printed step_printed
   step-accepted e = rw (answered-next v after (step_on_answer t bytes s) s h e)
 
   -- a refused step
-  step-refused : (k : Refusal) → v ≡ Refused k → (after ≡ s) × (refusal_printed s (number k) ≡ record_on_printed t bytes s)
+  step-refused : (k : Refusal) → v ≡ Err k → (after ≡ s) × (refusal_printed s (number k) ≡ record_on_printed t bytes s)
   unfolding record_on_printed step_printed
   step-refused k e = let both = answered-not v after (step_on_answer t bytes s) s h e in (both.1, rw both.0)
 
   pub reported-accepted :
       {r : TextAnswer} {before out : List ℕ} {at : ℕ}
-      → v ≡ Accepted
+      → v ≡ (Ok tt)
       → TextAnsweredOf r before at out (forecast_printed t after (forecast_on_answer t after answer_numbers))
       → Reported r before at out after (record_on_printed t bytes s)
   reported-accepted {r} {before} {out} {at} e k =
@@ -125,7 +124,7 @@ module _ (t : TableValues) (bytes : List ℕ) (s after : State) (v : Verdict) (h
 
   pub reported-refused :
       (k : Refusal) {r : TextAnswer} {before out : List ℕ} {at : ℕ}
-      → v ≡ Refused k
+      → v ≡ Err k
       → TextAnswered r before at out (refusal_line (steps_of after) (number k)) (leb (number k) 10)
       → Reported r before at out after (record_on_printed t bytes s)
   reported-refused k {r} {before} {out} {at} e x =

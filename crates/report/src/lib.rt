@@ -8,8 +8,6 @@ ghost use Rattle.program.specs.Records.{forecast_printed, record_on_printed};
 ghost use Rattle.report.specs.Answers.{RecordReady, TextAnsweredOf, Reported};
 
 use lines::put_lines;
-use network::ForecastAnswer;
-use refusal::Verdict;
 use refusal_answer::{TextAnswer, answer_refusal};
 use sizes::STATE_NUMBERS;
 use table::Counts;
@@ -35,7 +33,7 @@ fn answer_forecast(
     let leads = counts.leads + 1;
     let first = 4 * leads;
     match answer {
-        ForecastAnswer::Accepted(_) => {
+        Ok(_) => {
             let end = put_lines(
                 &mut *out,
                 at,
@@ -47,7 +45,7 @@ fn answer_forecast(
             );
             TextAnswer { end, ended: false }
         }
-        ForecastAnswer::Refused(refusal) => answer_refusal(refusal, steps, &mut *out, at),
+        Err(refusal) => answer_refusal(refusal, steps, &mut *out, at),
     }
 }
 
@@ -77,7 +75,7 @@ pub fn answer_record(
         true,
     );
     match verdict {
-        Verdict::Accepted => answer_forecast(
+        Ok(()) => answer_forecast(
             table,
             counts,
             weights,
@@ -87,6 +85,6 @@ pub fn answer_record(
             &mut *out,
             at,
         ),
-        Verdict::Refused(refusal) => answer_refusal(refusal, state[1], &mut *out, at),
+        Err(refusal) => answer_refusal(refusal, state[1], &mut *out, at),
     }
 }

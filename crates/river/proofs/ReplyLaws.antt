@@ -1,19 +1,18 @@
 -- Laws of the replies: an answer's numbers are those of its definition.
+use Rattle.refusal.specs.declared.Refusal.{Refusal}
+use Rattle.std.specs.Prelude.{Result}
 use Prim.{Unit}
 use Prim.Native.Nat.{ℕ}
 use mathlib.Core.List.{List}
 use mathlib.Core.Path.{◌≡◌, refl, sym, ap, ◌∙◌}
-use Rattle.refusal.specs.Answers.{Answer, accepted, refused}
-use Rattle.refusal.specs.declared.Verdict.{Verdict}
-use Rattle.refusal.specs.Verdicts.{verdict_answer}
+use Rattle.refusal.specs.Answers.{Answer, accepted, refused, answer_of}
 use Rattle.method.specs.declared.Figures.{Figures}
 use Rattle.table.specs.Rules.{table_rules}
 use Rattle.table.specs.InUse.{table_in}
 use Rattle.table.proofs.TableLaws as table-laws
 use Rattle.state.specs.States.{State}
 use Rattle.state.specs.Answers.{verdict, Answered}
-use Rattle.network.specs.declared.ForecastAnswer.{ForecastAnswer}
-use Rattle.network.specs.Lent.{count_answer, Lent}
+use Rattle.network.specs.Lent.{Lent}
 use Rattle.river.specs.declared.TablePlan.{TablePlan}
 use Rattle.river.specs.declared.Written.{Written}
 use Rattle.river.specs.Replies.{refusal_of, plan_of, no_plan, plan_reply, StateReplied, written_reply, ForecastReplied}
@@ -24,17 +23,17 @@ same-refusal (accepted s) = refl
 same-refusal (refused n) = refl
 
 pub state-replied :
-    (v : Verdict) (after : State) (answer : Answer State) (before : State) (r : ℕ)
+    (v : Result Unit Refusal) (after : State) (answer : Answer State) (before : State) (r : ℕ)
     → Answered v after answer before
-    → r ≡ refusal_of (verdict_answer v)
+    → r ≡ refusal_of (answer_of v)
     → StateReplied r after answer before
 state-replied v after answer before r h e =
     record { refusal = e ∙ (ap refusal_of h.verdict ∙ same-refusal answer); state = h.state }
 
 pub forecast-replied :
-    (a : ForecastAnswer) (answer : Answer (List Figures)) (before after : List ℕ) (r : Written)
+    (a : Result ℕ Refusal) (answer : Answer (List Figures)) (before after : List ℕ) (r : Written)
     → Lent a after answer before
-    → r ≡ written_reply (count_answer a)
+    → r ≡ written_reply (answer_of a)
     → ForecastReplied r after answer before
 forecast-replied a answer before after r h e = record { reply = e ∙ ap written_reply h.count; numbers = h.numbers }
 

@@ -1,9 +1,9 @@
 -- Document 01, Numbers for no: an entry's answer as numbers, for programs in C or Rust.
+use Rattle.rating.specs.declared.RatedReading.{RatedReading}
 use Rattle.std.specs.Prelude.{ℕ, ◌+◌, ◌*◌, List, ◌≡◌, Float, pos}
 use Rattle.std.specs.Float.{binary64}
 use Rattle.std.specs.Float.Ieee.{of_int}
 use Rattle.refusal.specs.Answers.{Answer, accepted, refused}
-use Rattle.rating.specs.Noise.{RatedReading}
 use Rattle.rating.specs.Looks.{Look}
 use Rattle.method.specs.declared.Figures.{Figures}
 use Rattle.table.specs.Tables.{TableValues}

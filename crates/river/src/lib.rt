@@ -3,23 +3,20 @@
 #![tactic(auto)]
 
 ghost use Rattle.std.specs.Prelude.{◌≡◌, length};
+ghost use Rattle.refusal.specs.Answers.{answer_of};
 ghost use Rattle.refusal.specs.Answers.{accepted};
-ghost use Rattle.refusal.specs.Verdicts.{verdict_answer};
 ghost use Rattle.table.specs.InUse.{table_in};
 ghost use Rattle.table.specs.Rules.{table_rules};
 ghost use Rattle.rating.specs.Looks.{look_of};
-ghost use Rattle.network.specs.Lent.{count_answer};
 ghost use Rattle.entries.specs.Entries.{start_answer, step_answer, forecast_answer};
 ghost use Rattle.entries.specs.Trials.{trial_answer};
 ghost use Rattle.gauge_look.specs.GaugeLooks.{rating_answer};
-ghost use Rattle.display.specs.Display.{show_answer, shown_answer};
+ghost use Rattle.display.specs.Display.{show_answer};
 ghost use Rattle.river.specs.Held.{CountsSmall, PlanAsked};
 ghost use Rattle.river.specs.Replies.{version, refusal_of, no_plan, plan_reply, written_reply, rating_reply, display_reply, StateReplied, ForecastReplied};
 
-use display::ShownAnswer;
-use network::ForecastAnswer;
+use refusal::Refusal;
 use rating::RatingAnswer;
-use refusal::Verdict;
 use sizes::STATE_NUMBERS;
 use table::Counts;
 
@@ -68,21 +65,21 @@ pub struct Display {
     pub margin: f64,
 }
 
-fn refusal_of(verdict: Verdict) -> u64
-    ensures { result ≡ refusal_of (verdict_answer verdict) }
+fn refusal_of(verdict: Result<(), Refusal>) -> u64
+    ensures { result ≡ refusal_of (answer_of verdict) }
 {
     match verdict {
-        Verdict::Accepted => 0,
-        Verdict::Refused(refusal) => refusal.code(),
+        Ok(()) => 0,
+        Err(refusal) => refusal.code(),
     }
 }
 
-fn written_reply(answer: ForecastAnswer) -> Written
-    ensures { result ≡ written_reply (count_answer answer) }
+fn written_reply(answer: Result<usize, Refusal>) -> Written
+    ensures { result ≡ written_reply (answer_of answer) }
 {
     match answer {
-        ForecastAnswer::Accepted(count) => Written { refusal: 0, count },
-        ForecastAnswer::Refused(refusal) => {
+        Ok(count) => Written { refusal: 0, count },
+        Err(refusal) => {
             let number = refusal.code();
             Written {
                 refusal: number,
@@ -114,16 +111,16 @@ fn rating_reply(answer: RatingAnswer) -> Rating
     }
 }
 
-fn display_reply(answer: ShownAnswer) -> Display
-    ensures { result ≡ display_reply (shown_answer answer) }
+fn display_reply(answer: Result<Shown, Refusal>) -> Display
+    ensures { result ≡ display_reply (answer_of answer) }
 {
     match answer {
-        ShownAnswer::Accepted(shown) => Display {
+        Ok(shown) => Display {
             refusal: 0,
             discharge: shown.discharge,
             margin: shown.margin,
         },
-        ShownAnswer::Refused(refusal) => {
+        Err(refusal) => {
             let number = refusal.code();
             Display {
                 refusal: number,
@@ -192,8 +189,8 @@ pub fn river_check(table: &[u8]) -> TablePlan
     let read = table_reader::read(table);
     let verdict = read.verdict;
     match verdict {
-        Verdict::Accepted => plan_of(read.counts),
-        Verdict::Refused(refusal) => no_plan(refusal.code()),
+        Ok(()) => plan_of(read.counts),
+        Err(refusal) => no_plan(refusal.code()),
     }
 }
 

@@ -2,56 +2,51 @@
 #![tactic(auto)]
 
 ghost use Rattle.std.specs.Prelude.{◌≡◌, ◌≤◌};
+ghost use Rattle.refusal.specs.Answers.{answer_of};
 ghost use Rattle.units.specs.Units.{C, S};
-ghost use Rattle.weighting.specs.Estimates.{estimate, estimate_answer, EstimateFits, AnsweredEstimateFits};
+ghost use Rattle.weighting.specs.Estimates.{estimate, EstimateFits, AnsweredEstimateFits};
 ghost use Rattle.weighting.specs.Blend.{blend_answer};
-ghost use Rattle.method.specs.Figures.{variance, figures_answer, FiguresFit, AnsweredFiguresFit};
+ghost use Rattle.method.specs.Figures.{variance, FiguresFit, AnsweredFiguresFit};
 ghost use Rattle.method.specs.Routing.{routed_discharge};
 ghost use Rattle.routing.specs.Parts.{parts_answer, routed_answer};
 
-use method::{Figures, FiguresAnswer};
+use method::Figures;
 use refusal::Refusal;
-use units::{Variance, VarianceAnswer};
+use units::Variance;
 use weighting::blend::blend;
-use weighting::{Estimate, EstimateAnswer, SCALE};
+use weighting::{Estimate, SCALE};
 
 const WEIGHT_MARGIN: u64 = 3;
 
 // A part of the new variance: a variance blended with 0. Its margin is a variance's.
-fn variance_part(weight: u64, variance: Estimate) -> EstimateAnswer
+fn variance_part(weight: u64, variance: Estimate) -> Result<Estimate, Refusal>
     requires { (weight ≤ S) × EstimateFits variance }
-    ensures { (estimate_answer result ≡ blend_answer weight 3 variance (estimate 0 0)) × AnsweredEstimateFits result }
+    ensures { (answer_of result ≡ blend_answer weight 3 variance (estimate 0 0)) × AnsweredEstimateFits result }
 {
     let zero = Estimate {
         value: 0,
         margin: 0,
     };
     let part = blend(weight, WEIGHT_MARGIN, variance, zero);
-    let VarianceAnswer::Accepted(margin) = Variance::new(part.margin) else {
-        return EstimateAnswer::Refused(Refusal::AboveCeiling);
-    };
-    EstimateAnswer::Accepted(Estimate {
+    let margin = Variance::new(part.margin)?;
+    Ok(Estimate {
         value: part.value,
         margin: margin.0,
     })
 }
 
 // The variance after the step, by the weight of the element and its system noise; its parts are judged, itself not yet.
-pub fn route_variance(weight: u64, noise: u64, inflow: Figures, old: Figures) -> EstimateAnswer
+pub fn route_variance(weight: u64, noise: u64, inflow: Figures, old: Figures) -> Result<Estimate, Refusal>
     requires { (weight ≤ S) × ((noise ≤ C) × (FiguresFit inflow × FiguresFit old)) }
-    ensures { estimate_answer result ≡ parts_answer weight noise (variance inflow) (variance old) }
+    ensures { answer_of result ≡ parts_answer weight noise (variance inflow) (variance old) }
 {
-    let EstimateAnswer::Accepted(old_part) = variance_part(weight, old.variance_estimate()) else {
-        return EstimateAnswer::Refused(Refusal::AboveCeiling);
-    };
-    let EstimateAnswer::Accepted(inflow_part) = variance_part(
+    let old_part = variance_part(weight, old.variance_estimate())?;
+    let inflow_part = variance_part(
         SCALE - weight,
         inflow.variance_estimate(),
-    ) else {
-        return EstimateAnswer::Refused(Refusal::AboveCeiling);
-    };
+    )?;
     let both = blend(weight, WEIGHT_MARGIN, old_part, inflow_part);
-    EstimateAnswer::Accepted(Estimate {
+    Ok(Estimate {
         value: both.value + noise,
         margin: both.margin,
     })
@@ -71,11 +66,11 @@ pub fn route_discharge(weight: u64, inflow: Figures, old: Figures) -> Estimate
 }
 
 // The element after the step, before a reading corrects it: its discharge and its variance, judged.
-pub fn routed_figures(q: Estimate, v: EstimateAnswer) -> FiguresAnswer
-    ensures { (figures_answer result ≡ routed_answer q (estimate_answer v)) × AnsweredFiguresFit result }
+pub fn routed_figures(q: Estimate, v: Result<Estimate, Refusal>) -> Result<Figures, Refusal>
+    ensures { (answer_of result ≡ routed_answer q (answer_of v)) × AnsweredFiguresFit result }
 {
     match v {
-        EstimateAnswer::Accepted(variance) => Figures::new(q, variance),
-        EstimateAnswer::Refused(refusal) => FiguresAnswer::Refused(refusal),
+        Ok(variance) => Figures::new(q, variance),
+        Err(refusal) => Err(refusal),
     }
 }

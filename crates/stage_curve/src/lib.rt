@@ -2,8 +2,8 @@
 #![tactic(auto)]
 
 ghost use Rattle.std.specs.Prelude.{◌≡◌, ◌≤◌};
+ghost use Rattle.refusal.specs.Answers.{answer_of};
 ghost use Rattle.sizes.specs.Sizes.{most_elements};
-ghost use Rattle.units.specs.Answers.{discharge_answer};
 ghost use Rattle.rating.specs.Bounds.{RatingFits};
 ghost use Rattle.rating.specs.Looks.{look_of};
 ghost use Rattle.gauges.specs.Gauges.{gauge_from};
@@ -11,30 +11,32 @@ ghost use Rattle.gauges.specs.Looks.{look_by, look_on};
 ghost use Rattle.gauges.specs.Places.{GaugeThere};
 ghost use Rattle.gauges.specs.Bounds.{GaugeBounds};
 
+use refusal::Refusal;
 use fields::bytes::{whole16, whole32};
 use gauges::{beta_at, piece_at};
-use rating::{RatingAnswer, noise_of, rate_on_piece};
-use units::{DischargeAnswer, Variance};
+use rating::{CurveLook, RatedReading, noise_of, rate_on_piece};
+use units::Variance;
 
 // What a piece gives for a stage, with the noise of a reading there at the gauge at a place, and with how many pieces were read. (β is read
 // before R: where a branch follows, the compiler puts R together byte by byte.)
-fn with_noise(table: &[u8], at: usize, answer: DischargeAnswer, pieces: usize) -> RatingAnswer
-    requires { (GaugeThere table.now at × GaugeBounds most_elements (gauge_from table.now at)) × RatingFits (discharge_answer answer) }
-    ensures { look_of result ≡ look_by (gauge_from table.now at) (discharge_answer answer) pieces }
+fn with_noise(table: &[u8], at: usize, answer: Result<Discharge, Refusal>, pieces: usize) -> CurveLook
+    requires { (GaugeThere table.now at × GaugeBounds most_elements (gauge_from table.now at)) × RatingFits (answer_of answer) }
+    ensures { look_of result ≡ look_by (gauge_from table.now at) (answer_of answer) pieces }
 {
-    match answer {
-        DischargeAnswer::Accepted(z) => {
+    let rated = match answer {
+        Ok(discharge) => {
             let beta = beta_at(table, at);
-            let noise = noise_of(whole32(table, at + 2), beta, z.0);
-            RatingAnswer::Accepted(z, Variance(noise), pieces)
+            let noise = Variance(noise_of(whole32(table, at + 2), beta, discharge.0));
+            Ok(RatedReading { discharge, noise })
         }
-        DischargeAnswer::Refused(refusal) => RatingAnswer::Refused(refusal, pieces),
-    }
+        Err(refusal) => Err(refusal),
+    };
+    CurveLook { rated, pieces }
 }
 
 // The discharge of a stage on the curve of the accepted gauge at a place with the noise of a reading there, or 14: on the first piece with
 // the stage below its top, which is the last one read. There always is one, since the last top is 30,001.
-pub fn look_along(table: &[u8], at: usize, stage: u64) -> RatingAnswer
+pub fn look_along(table: &[u8], at: usize, stage: u64) -> CurveLook
     requires { GaugeThere table.now at × ((stage ≤ 30000) × GaugeBounds most_elements (gauge_from table.now at)) }
     ensures { look_of result ≡ look_on (gauge_from table.now at) stage }
 {

@@ -1,9 +1,8 @@
 -- Document 01, Numbers for no: what a call answers and which state it leaves.
+use Rattle.refusal.specs.declared.Refusal.{Refusal}
 use Prim.{Unit}
-use Rattle.std.specs.Prelude.{◌≡◌}
-use Rattle.refusal.specs.Answers.{Answer, accepted, refused}
-use Rattle.refusal.specs.Verdicts.{verdict_answer}
-use Rattle.refusal.specs.declared.Verdict.{Verdict}
+use Rattle.std.specs.Prelude.{◌≡◌, Result}
+use Rattle.refusal.specs.Answers.{Answer, accepted, refused, answer_of}
 use Rattle.state.specs.States.{State}
 
 -- "returned alone; state and lent memory stay as before"
@@ -16,6 +15,6 @@ state_after (accepted next) before = next
 state_after (refused n) before = before
 
 -- an entry's verdict, and every number of the state that it leaves
-pub record Answered (r : Verdict) (after : State) (answer : Answer State) (before : State) : Type 0 where
-  pub verdict : verdict_answer r ≡ verdict answer
+pub record Answered (r : Result Unit Refusal) (after : State) (answer : Answer State) (before : State) : Type 0 where
+  pub verdict : answer_of r ≡ verdict answer
   pub state : after ≡ state_after answer before

@@ -1,4 +1,5 @@
 -- Laws of an accepted table that is read where it stands.
+use Rattle.std.specs.Prelude.{Ok, Err}
 use Prim.{Unit}
 use Prim.Native.Nat.{ℕ, ◌+◌, ◌*◌, ◌≤◌, ◌<◌}
 use mathlib.Core.Bool.{true}
@@ -10,7 +11,7 @@ use native.Mathlib.Omega.{arith}
 use lib.Dec.{leb, eqb}
 use lib.ListN.{length}
 use Rattle.refusal.specs.Refusals.{number}
-use Rattle.refusal.specs.Answers.{accepted, refused}
+use Rattle.refusal.specs.Answers.{accepted, refused, answer_of}
 use Rattle.refusal.specs.declared.Refusal.{Refusal}
 use Rattle.refusal.proofs.RuleLaws.{not-both}
 use Rattle.fields.specs.Bytes.{number32}
@@ -24,8 +25,6 @@ use Rattle.gauges.specs.Bounds.{GaugeKnown}
 use Rattle.gauges.proofs.GaugeLaws.{place-before, gauge-of-more}
 use Rattle.table.specs.declared.Counts.{Counts}
 use Rattle.table.specs.declared.TableAnswer.{TableAnswer}
-use Rattle.refusal.specs.declared.Verdict.TheVariants.{Accepted, Refused}
-use Rattle.refusal.specs.Verdicts.{verdict_answer}
 use Rattle.table.specs.Tables.{table_of}
 use Rattle.table.specs.Rules.{length_fits, version_fits, size_fits, table_rules}
 use Rattle.table.specs.Decoded.{CountsHeld, TableRead}
@@ -135,10 +134,10 @@ pub record TableKnown (bytes : List ℕ) (read : Counts) : Type 0 where
   pub counted : CountedPlaces bytes read
 
 module _ (bytes : List ℕ) (r : TableAnswer) (h : TableRead bytes r) where
-  pub table-accepted : r.verdict ≡ Accepted → TableKnown bytes r.counts
+  pub table-accepted : r.verdict ≡ (Ok tt) → TableKnown bytes r.counts
   unfolding table_in in_use
   table-accepted e =
-      let kept = sym h.verdict ∙ ap verdict_answer e in
+      let kept = sym h.verdict ∙ ap answer_of e in
       record {
         kept = kept;
         counted = record {
@@ -152,18 +151,18 @@ module _ (bytes : List ℕ) (r : TableAnswer) (h : TableRead bytes r) where
         };
       }
 
-  pub table-refused : {k : Refusal} → r.verdict ≡ Refused k → table_rules {A = Unit} bytes (accepted tt) ≡ refused (number k)
-  table-refused e = sym h.verdict ∙ ap verdict_answer e
+  pub table-refused : {k : Refusal} → r.verdict ≡ Err k → table_rules {A = Unit} bytes (accepted tt) ≡ refused (number k)
+  table-refused e = sym h.verdict ∙ ap answer_of e
 
 -- a table that is refused: nothing is said of its counts
 pub refused-read :
     (bytes : List ℕ) (r : TableAnswer) {k : Refusal}
-    → r.verdict ≡ Refused k
+    → r.verdict ≡ Err k
     → table_rules {A = Unit} bytes (accepted tt) ≡ refused (number k)
     → TableRead bytes r
 refused-read bytes r e h =
     record {
-      verdict = ap verdict_answer e ∙ sym h;
+      verdict = ap answer_of e ∙ sym h;
       counts = λ a. absurd (not-both a h);
       basins = λ a. absurd (not-both a h);
       dams = λ a. absurd (not-both a h);

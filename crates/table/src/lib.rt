@@ -13,7 +13,6 @@ ghost use Rattle.table.specs.Bounds.{AcceptedTable, Counted};
 use fields::bytes::{whole16, whole32, wide};
 use fields::range::in_range;
 use gauges::gauge_size;
-use refusal::Verdict;
 use sizes::{MOST_ELEMENTS, MOST_GAUGES, MOST_LEADS};
 
 // The counts of a table: T in minutes, L, N and M, how many of its elements are basins and dams, and how many tanks
@@ -27,13 +26,6 @@ pub struct Counts {
     pub basins: usize,
     pub dams: usize,
     pub extra: usize,
-}
-
-// The counts of a table, where its bytes are accepted.
-#[derive(Clone, Copy)]
-pub struct TableAnswer {
-    pub verdict: Verdict,
-    pub counts: Counts,
 }
 
 // Rule 1: the length field counts the bytes after it, and the header is whole.

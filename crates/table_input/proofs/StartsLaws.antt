@@ -1,4 +1,5 @@
 -- Laws of the table that the input begins with.
+use Rattle.std.specs.Prelude.{Result, Ok, Err}
 use Prim.{Unit}
 use Prim.Native.Nat.{ℕ, ◌+◌, ◌≤◌, ◌<◌}
 use mathlib.Core.Bool.{true, false}
@@ -12,11 +13,8 @@ use lib.ListN.{length, take, drop, length-take, drop_of_length-le}
 use lib.Seq.{take_all, length-take-le}
 use Rattle.sizes.specs.Sizes.{state_numbers, table_bytes}
 use Rattle.refusal.specs.Refusals.{number}
-use Rattle.refusal.specs.Answers.{Answer, accepted, refused}
+use Rattle.refusal.specs.Answers.{Answer, accepted, refused, answer_of}
 use Rattle.refusal.specs.declared.Refusal.{Refusal}
-use Rattle.refusal.specs.declared.Verdict.{Verdict}
-use Rattle.refusal.specs.declared.Verdict.TheVariants.{Accepted, Refused}
-use Rattle.refusal.specs.Verdicts.{verdict_answer}
 use Rattle.refusal.proofs.RuleLaws.{not-both, rule-kept}
 use Rattle.fields.specs.Bytes.{number32}
 use Rattle.table.specs.Rules.{length_fits, table_rules}
@@ -87,13 +85,13 @@ cut-table input n e few h =
 
 -- ---- the start on it
 
-pub never_both : {v : Verdict} {k : Refusal} → v ≡ Refused k → v ≡ Accepted → ⊥
-never_both r a = not-both (ap verdict_answer a) (ap verdict_answer r)
+pub never_both : {v : Result Unit Refusal} {k : Refusal} → v ≡ Err k → v ≡ (Ok tt) → ⊥
+never_both r a = not-both (ap answer_of a) (ap answer_of r)
 
-module _ (bytes : List ℕ) (s after : State) (v : Verdict) where
+module _ (bytes : List ℕ) (s after : State) (v : Result Unit Refusal) where
   pub start-accepted :
       table_rules {A = Unit} bytes (accepted tt) ≡ accepted tt
-      → v ≡ Accepted
+      → v ≡ (Ok tt)
       → after ≡ started (table_in bytes) s
       → Answered v after (start_answer bytes s) s
   unfolding start_answer
@@ -102,13 +100,13 @@ module _ (bytes : List ℕ) (s after : State) (v : Verdict) where
   pub start-refused :
       (k : Refusal)
       → table_rules {A = Unit} bytes (accepted tt) ≡ refused (number k)
-      → v ≡ Refused k
+      → v ≡ Err k
       → after ≡ s
       → Answered v after (start_answer bytes s) s
   unfolding start_answer
   start-refused k r e h = answered-refused e (rules-refused bytes _ r) h
 
-module _ (input : List ℕ) (s after : State) (v : Verdict) (h : Answered v after (input_answer input s) s) (e : v ≡ Accepted) where
+module _ (input : List ℕ) (s after : State) (v : Result Unit Refusal) (h : Answered v after (input_answer input s) s) (e : v ≡ (Ok tt)) where
   found : input_answer input s ≡ accepted after
   found = answered-next v after (input_answer input s) s h e
 
@@ -155,7 +153,7 @@ started-input input size s after r weights t o e =
 -- what an accepted start leaves is a state that rule 8 accepts, and as long as before
 module _
     (input : List ℕ) (s after : State) (r : TableStart) (weights : List ℕ) (full : length s ≡ state_numbers)
-    (o : StartedOnInput input s r weights after) (v : r.verdict ≡ Accepted) where
+    (o : StartedOnInput input s r weights after) (v : r.verdict ≡ (Ok tt)) where
   begun :
       (table_rules {A = Unit} (take r.length input) (accepted tt) ≡ accepted tt)
       × (after ≡ started (table_in (take r.length input)) s)

@@ -5,15 +5,15 @@ ghost use Rattle.std.specs.Prelude.{◌≡◌, ◌≤◌, length};
 ghost use Rattle.sizes.specs.Sizes.{most_elements};
 ghost use Rattle.table_input.specs.Starts.{TableEnd, StartedOn, StartedOnInput};
 
+use refusal::Refusal;
 use fields::bytes::read32;
-use refusal::Verdict;
 use sizes::{STATE_NUMBERS, TABLE_BYTES};
 use table::Counts;
 
 // The verdict on a table, its counts where it is accepted, and how many bytes of the input it has.
 #[derive(Clone, Copy)]
 pub struct TableStart {
-    pub verdict: Verdict,
+    pub verdict: Result<(), Refusal>,
     pub counts: Counts,
     pub length: usize,
 }
@@ -48,7 +48,7 @@ fn start_on(
     let verdict = read.verdict;
     let counts = read.counts;
     match verdict {
-        Verdict::Accepted => {
+        Ok(()) => {
             first_values::start_on(table, counts.elements, state);
             element_weights::put_weights(table, counts.step, counts.elements, weights);
             TableStart {
@@ -57,7 +57,7 @@ fn start_on(
                 length: size,
             }
         }
-        Verdict::Refused(_) => TableStart {
+        Err(_) => TableStart {
             verdict,
             counts,
             length: size,

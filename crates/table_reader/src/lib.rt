@@ -6,46 +6,25 @@ ghost use Rattle.sizes.specs.Sizes.{most_elements};
 ghost use Rattle.table.specs.Tables.{table_of};
 ghost use Rattle.table.specs.Rules.{length_fits};
 ghost use Rattle.table.specs.Decoded.{CountsHeld, TableRead};
-ghost use Rattle.refusal.specs.declared.Verdict.TheVariants.{Refused};
 ghost use Rattle.table_reader.specs.Judged.{Judged};
 
 use down_rules::down_fits;
 use element_rules::{JudgedElement, judge_element};
 use elements::{element_at, extra_at};
-use refusal::{Refusal, Verdict};
-use table::{Counts, TableAnswer};
+use refusal::Refusal;
+use table::Counts;
 
-// What rules 5 and 6 say of the elements: whether all keep rule 5 and, where they do, whether all keep rule 6, how many are basins and
-// dams, and how many tanks stand above the last of their elements.
+// The kinds that a table's elements are counted by: how many are basins and dams, and how many tanks stand above the last of their
+// elements.
 #[derive(Clone, Copy)]
-struct ElementsJudged {
-    fit: bool,
-    later: bool,
+struct KindCounts {
     basins: usize,
     dams: usize,
     extra: usize,
 }
 
-fn elements_judged(
-    fit: bool,
-    later: bool,
-    basins: usize,
-    dams: usize,
-    extra: usize,
-) -> ElementsJudged
-    ensures { result ≡ record { fit = fit; later = later; basins = basins; dams = dams; extra = extra } }
-{
-    ElementsJudged {
-        fit,
-        later,
-        basins,
-        dams,
-        extra,
-    }
-}
-
-// Rules 5 and 6 on the first n elements, each element once.
-fn judge_elements(table: &[u8], step: u64, n: usize) -> ElementsJudged
+// Rules 5 and 6 on the first n elements, each element once: 5 of any element comes before 6.
+fn judge_elements(table: &[u8], step: u64, n: usize) -> Result<KindCounts, Refusal>
     requires { (n ≤ most_elements) × (26 * n + 10 ≤ length table.now) }
     ensures { Judged table.now step n result }
 {
@@ -57,7 +36,7 @@ fn judge_elements(table: &[u8], step: u64, n: usize) -> ElementsJudged
         let judged = judge_element(step, element_at(table, i));
         match judged {
             JudgedElement::Refused => {
-                return elements_judged(false, later, basins, dams, extra);
+                return Err(Refusal::ElementField);
             }
             JudgedElement::Basin => {
                 basins += 1;
@@ -74,74 +53,41 @@ fn judge_elements(table: &[u8], step: u64, n: usize) -> ElementsJudged
             later = false;
         }
     }
-    elements_judged(true, later, basins, dams, extra)
+    if !later {
+        return Err(Refusal::ElementDown);
+    }
+    Ok(KindCounts {
+        basins,
+        dams,
+        extra,
+    })
 }
 
-// A refused table, whose counts nobody reads.
-fn refused(counts: Counts, refusal: Refusal) -> TableAnswer
-    ensures { result.verdict ≡ Refused refusal }
-{
-    TableAnswer {
-        verdict: Verdict::Refused(refusal),
-        counts,
-    }
-}
-
-// Rules 2 to 7 in checking order, where rule 1 is kept; the counts of the header, with basins, dams and
-// extra tanks.
-fn judge(table: &[u8], counts: Counts) -> TableAnswer
-    requires { (length_fits table.now ≡ true) × CountsHeld counts (table_of table.now) }
-    ensures { TableRead table.now result }
-{
-    if !table::version_fits(table) {
-        return refused(counts, Refusal::TableVersion);
-    }
-    if !table::counts_fit(table) {
-        return refused(counts, Refusal::TableCounts);
-    }
-    if !table::size_fits(table) {
-        return refused(counts, Refusal::TableSize);
-    }
-    let n = counts.elements;
-    let elements = judge_elements(table, counts.step, n);
-    if !elements.fit {
-        return refused(counts, Refusal::ElementField);
-    }
-    if !elements.later {
-        return refused(counts, Refusal::ElementDown);
-    }
-    if !gauge_rules::gauges_fit(table, n, counts.gauges) {
-        return refused(counts, Refusal::GaugeField);
-    }
-    TableAnswer {
-        verdict: Verdict::Accepted,
-        counts: Counts {
-            step: counts.step,
-            leads: counts.leads,
-            elements: n,
-            gauges: counts.gauges,
-            basins: elements.basins,
-            dams: elements.dams,
-            extra: elements.extra,
-        },
-    }
-}
-
-// The counts of a table, and the verdict of rules 1 to 7.
-pub fn read(table: &[u8]) -> TableAnswer
+// The counts of a table, with basins, dams and extra tanks, or the refusal of the first of rules 1 to 7 that it does not keep.
+pub fn read(table: &[u8]) -> Result<Counts, Refusal>
     ensures { TableRead table.now result }
 {
     if !table::length_fits(table) {
-        let none = Counts {
-            step: 0,
-            leads: 0,
-            elements: 0,
-            gauges: 0,
-            basins: 0,
-            dams: 0,
-            extra: 0,
-        };
-        return refused(none, Refusal::TableLength);
+        return Err(Refusal::TableLength);
     }
-    judge(table, table::counts_of(table))
+    if !table::version_fits(table) {
+        return Err(Refusal::TableVersion);
+    }
+    if !table::counts_fit(table) {
+        return Err(Refusal::TableCounts);
+    }
+    if !table::size_fits(table) {
+        return Err(Refusal::TableSize);
+    }
+    let header = table::counts_of(table);
+    let kinds = judge_elements(table, header.step, header.elements)?;
+    if !gauge_rules::gauges_fit(table, header.elements, header.gauges) {
+        return Err(Refusal::GaugeField);
+    }
+    Ok(Counts {
+        basins: kinds.basins,
+        dams: kinds.dams,
+        extra: kinds.extra,
+        ..header
+    })
 }

@@ -1,5 +1,7 @@
 -- A forecast by the river's cells: what its working space holds after i elements, from the first element to the last. Only the figures of last
 -- cells are kept; the rows of other tanks serve the next element of tanks again.
+use Prim.{Unit}
+use Rattle.std.specs.Prelude.{Result, Ok, Err, None}
 use Prim.Native.Nat.{ℕ, suc, ◌+◌, ◌-◌, ◌*◌, ◌≤◌, ◌<◌}
 use mathlib.Core.List.{List}
 use mathlib.Core.Logic.{⊎_elim}
@@ -8,8 +10,6 @@ use native.Mathlib.Nat.{eq-or-lt_of_le}
 use native.Mathlib.Omega.{arith}
 use Rattle.sizes.specs.Sizes.{most_places}
 use Rattle.refusal.specs.declared.Refusal.{Refusal}
-use Rattle.refusal.specs.declared.Verdict.{Verdict}
-use Rattle.refusal.specs.declared.Verdict.TheVariants.{Accepted, Refused}
 use Rattle.units.specs.Units.{thousandths}
 use Rattle.units.proofs.UnderLaws.{Under}
 use Rattle.method.specs.declared.Figures.{Figures}
@@ -20,7 +20,6 @@ use Rattle.table.specs.KindCounts.{extra_before, extra_count}
 use Rattle.walk.specs.Space.{Later}
 use Rattle.cells.specs.Cells.{first_cell, last_cell, element_of, inlet_of, tank_of, cells}
 use Rattle.cells.proofs.CellLaws.{CellIn, element-of, last-is, last-in, last-most, inner-cell, inner-place, cell-used, inlet-later}
-use Rattle.record.specs.declared.Observation.TheVariants.{Nothing}
 use Rattle.state.specs.States.{State, figures_of}
 use Rattle.element_step.specs.ElementStep.{own_of}
 use Rattle.element_step.specs.Bounds.{tank_element}
@@ -96,7 +95,7 @@ module _ (t : TableValues) (i j : ℕ) (used : i < t.elements) (less : j < extra
         (noise H leads w : ℕ)
         → noise ≡ (t.element i).system_noise.0
         → H ≡ weight_of (cells t) c
-        → InputOf (cells t) (lead_own t s) no_observation (lead_figures t s) w 1 (IsLast t) (own_row t) (tank_input noise H Nothing) c leads
+        → InputOf (cells t) (lead_own t s) no_observation (lead_figures t s) w 1 (IsLast t) (own_row t) (tank_input noise H None) c leads
     unfolding no_observation
     tank-input noise H leads w e is =
         record {
@@ -153,7 +152,7 @@ module _ (t : TableValues) where
 
 -- tanks whose places are given by another function that says the same
 pub same-places :
-    {c : ElementInput} {first : ℕ → Figures} {place other : ℕ → ℕ} {leads extra j : ℕ} {r : Verdict} {before after : List ℕ}
+    {c : ElementInput} {first : ℕ → Figures} {place other : ℕ → ℕ} {leads extra j : ℕ} {r : Result Unit Refusal} {before after : List ℕ}
     → ((k : ℕ) → place k ≡ other k)
     → TanksWorked c first place leads extra j r before after
     → TanksWorked c first other leads extra j r before after
@@ -208,10 +207,10 @@ module _ (t : TableValues) (s : State) (leads : ℕ) where
       place_is j = tank-place (t.elements + 1) (i + 1) extra w 1 leads j
 
       module _
-          {r : Verdict} {before after : List ℕ} (some : 0 < extra) (h : Forecast i before)
+          {r : Result Unit Refusal} {before after : List ℕ} (some : 0 < extra) (h : Forecast i before)
           (g : TanksOpened r noise H extra (t.elements + extra_before t i) forecast_places s before after) where
         -- an element of tanks once they are worked out
-        pub ready-tanks : r ≡ Accepted → Ready i after
+        pub ready-tanks : r ≡ (Ok tt) → Ready i after
         ready-tanks a =
             last-ready t _ _ _ w 1 leads wide (IsLast t) (own_row t) i used _ rows to there
             (tanks-walked t _ _ _ w 1 leads wide (IsLast t) (own_row t) i used _ rows (figures-again t s) _
@@ -219,7 +218,7 @@ module _ (t : TableValues) (s : State) (leads : ℕ) where
             (open-tanks t _ _ _ w 1 leads wide (IsLast t) (own_row t) i used _ rows some h g.row))
 
         -- 16 at one of them is 16 of the forecast
-        pub tanks-pass : {k : Refusal} → r ≡ Refused k → Under (lead_numbers t s leads) → ⊥
+        pub tanks-pass : {k : Refusal} → r ≡ Err k → Under (lead_numbers t s leads) → ⊥
         tanks-pass a u =
             tanks-refused t _ _ _ w 1 leads wide (IsLast t) (own_row t) i used _ rows (figures-again t s) _
             (λ j l. tank-input t i j used l s noise H leads w noisy (weighed j l)) _ (λ j l. tank-first t i j used l s) (same-places place_is g.worked) a

@@ -1,4 +1,7 @@
 -- A step by the river's cells: rows of one place, and every cell has one of its own, so that its figures are kept.
+use Rattle.rating.specs.declared.RatedReading.{RatedReading}
+use Prim.{Unit}
+use Rattle.std.specs.Prelude.{Result, Ok, Err, Option, None}
 use Prim.Native.Nat.{ℕ, zero, suc, ◌+◌, ◌-◌, ◌*◌, ◌≤◌, ◌<◌}
 use mathlib.Core.Bool.{Bool, true, false, cond}
 use mathlib.Core.List.{List}
@@ -11,8 +14,6 @@ use lib.Dec.{eqb}
 use lib.ListN.{length}
 use Rattle.sizes.specs.Sizes.{most_places}
 use Rattle.refusal.specs.declared.Refusal.{Refusal}
-use Rattle.refusal.specs.declared.Verdict.{Verdict}
-use Rattle.refusal.specs.declared.Verdict.TheVariants.{Accepted, Refused}
 use Rattle.units.specs.Units.{S}
 use Rattle.units.proofs.UnderLaws.{Under}
 use Rattle.method.specs.declared.Figures.{Figures}
@@ -24,8 +25,6 @@ use Rattle.table.specs.KindCounts.{extra_before, extra_count}
 use Rattle.table.proofs.CountLaws.{extra-rise}
 use Rattle.cells.specs.Cells.{first_cell, last_cell, inlet_of, cell_place, cells}
 use Rattle.cells.proofs.CellLaws.{last-is, last-most, last-in-use, last-place, inner-place, places-apart, last-rises, inlet-later}
-use Rattle.record.specs.declared.Observation.{Observation}
-use Rattle.record.specs.declared.Observation.TheVariants.{Nothing}
 use Rattle.state.specs.States.{State, figures_of}
 use Rattle.state.specs.Bounds.{StateBounds}
 use Rattle.walk.specs.Space.{Later}
@@ -172,7 +171,7 @@ one_place p = omega arith
 first-place : (p : ℕ) → p * 1 + 0 + 0 ≡ p
 first-place p = omega arith
 
-module _ (t : TableValues) (own : ℕ → ℕ → Figures) (o : ℕ → Observation) (old : ℕ → ℕ → Figures) where
+module _ (t : TableValues) (own : ℕ → ℕ → Figures) (o : ℕ → (Option RatedReading)) (old : ℕ → ℕ → Figures) where
   -- the first cells are worked out
   abbrev pub StepWalked : (ℕ → Inlet) → ℕ → List ℕ → Type 0
   StepWalked inlet c space = Walked (cells t) own o old 1 0 EveryCell (cell_row t) inlet 1 c space
@@ -212,8 +211,8 @@ module _ (t : TableValues) (own : ℕ → ℕ → Figures) (o : ℕ → Observat
 
     -- an element of tanks, once those above the last are worked out
     module _
-        {noise weight : ℕ} {s : State} {r : Verdict} {before after : List ℕ} (some : 0 < extra_tanks (t.element i))
-        (of : (j : ℕ) → j < extra_tanks (t.element i) → StepInputOf (tank_input noise weight Nothing) (first_cell t i + j))
+        {noise weight : ℕ} {s : State} {r : Result Unit Refusal} {before after : List ℕ} (some : 0 < extra_tanks (t.element i))
+        (of : (j : ℕ) → j < extra_tanks (t.element i) → StepInputOf (tank_input noise weight None) (first_cell t i + j))
         (is : (k : ℕ) → figures_of s (cell_place t k) ≡ old 0 k) (h : StepWalked (resting t) (first_cell t i) before)
         (g : TanksOpened r noise weight (extra_tanks (t.element i)) (t.elements + extra_before t i) (step_places t i) s before after) where
       figures-are : (j : ℕ) → j < extra_tanks (t.element i) → figures_of s (t.elements + extra_before t i + j) ≡ old 0 (first_cell t i + j)
@@ -226,20 +225,20 @@ module _ (t : TableValues) (own : ℕ → ℕ → Figures) (o : ℕ → Observat
           (subst (λ (p : ℕ). RowMoved p (tank_start t i) 1 before g.middle) (sym (one_place (i + 1))) g.row))
 
       worked :
-          TanksWorked (tank_input noise weight Nothing) (λ j. figures_of s (t.elements + extra_before t i + j))
+          TanksWorked (tank_input noise weight None) (λ j. figures_of s (t.elements + extra_before t i + j))
           (λ j. tank_row (tank_start t i) (i + 1) (extra_tanks (t.element i)) j * 1 + 0) 1 (extra_tanks (t.element i)) 0 r g.middle after
       worked =
           subst
-          (λ (place : ℕ → ℕ). TanksWorked (tank_input noise weight Nothing) (λ j. figures_of s (t.elements + extra_before t i + j)) place 1 (extra_tanks (t.element i)) 0 r g.middle after)
+          (λ (place : ℕ → ℕ). TanksWorked (tank_input noise weight None) (λ j. figures_of s (t.elements + extra_before t i + j)) place 1 (extra_tanks (t.element i)) 0 r g.middle after)
           (step-places t i (extra_tanks (t.element i))) g.worked
 
-      pub ready-tanks : r ≡ Accepted → ReadyAt after
+      pub ready-tanks : r ≡ (Ok tt) → ReadyAt after
       ready-tanks a =
           last-ready t own o old 1 0 1 wide EveryCell (cell_row t) i used (tank_start t i) (kept-rows i used) to there
           (tanks-walked t own o old 1 0 1 wide EveryCell (cell_row t) i used (tank_start t i) (kept-rows i used) again _ of _ figures-are worked a opened)
 
       -- 16 at one of them is 16 of the step
-      pub tanks-pass : {k : Refusal} → r ≡ Refused k → Under (numbers_at (cells t) own o old 1 0 EveryCell (cell_row t) 0 (cells t).elements) → ⊥
+      pub tanks-pass : {k : Refusal} → r ≡ Err k → Under (numbers_at (cells t) own o old 1 0 EveryCell (cell_row t) 0 (cells t).elements) → ⊥
       tanks-pass e u =
           tanks-refused t own o old 1 0 1 wide EveryCell (cell_row t) i used (tank_start t i) (kept-rows i used) again _ of _ figures-are worked e opened
           (λ l m. subst (λ (k : ℕ). Under (numbers_at (cells t) own o old 1 0 EveryCell (cell_row t) k (cells t).elements)) (omega arith) u)

@@ -1,4 +1,6 @@
 -- The turn of one tank in the code, and the tanks one after the other: what the code relies on, and what is then known.
+use Prim.{Unit}
+use Rattle.std.specs.Prelude.{Result, Ok, Err, None}
 use Prim.Native.Nat.{ℕ, ◌+◌, ◌*◌, ◌<◌}
 use mathlib.Core.List.{List}
 use mathlib.Core.Logic.{◌≢◌, ⊎_elim, inr, inl}
@@ -9,11 +11,8 @@ use native.Mathlib.Omega.{arith}
 use lib.ListN.{length}
 use Rattle.refusal.specs.declared.Refusal.{Refusal}
 use Rattle.refusal.specs.declared.Refusal.TheVariants.{AboveCeiling}
-use Rattle.refusal.specs.declared.Verdict.{Verdict}
-use Rattle.refusal.specs.declared.Verdict.TheVariants.{Accepted, Refused}
 use Rattle.method.specs.declared.Figures.{Figures}
 use Rattle.method.specs.Inflow.{no_inflow}
-use Rattle.record.specs.declared.Observation.TheVariants.{Nothing}
 use Rattle.record.specs.Decoded.{ObservationFits}
 use Rattle.state.specs.States.{State, figures_of}
 use Rattle.answer_space.specs.Places.{most_sum_before, FiguresBelow}
@@ -75,7 +74,7 @@ module _
   module _
       {a b : ℕ} (is-a : a ≡ tank_place p extra j) (is_b : b ≡ tank_place p extra (j + 1)) {middle : List ℕ}
       (cleared : RowCleared b p.leads before middle) where
-    pub turn-ready : length middle ≡ length before → TankReady (tank_input noise weight Nothing) first a b p.leads middle
+    pub turn-ready : length middle ≡ length before → TankReady (tank_input noise weight None) first a b p.leads middle
     unfolding ObservationFits
     turn-ready size =
         record {
@@ -97,8 +96,8 @@ module _
         }
 
     pub tank-turned :
-        {r : Verdict} {after : List ℕ}
-        → ElementWorked r (tank_input noise weight Nothing) first a b p.leads middle after
+        {r : Result Unit Refusal} {after : List ℕ}
+        → ElementWorked r (tank_input noise weight None) first a b p.leads middle after
         → TankTurned r noise weight extra j p first before after
     tank-turned {r} {after} w =
         record {
@@ -111,7 +110,7 @@ module _
 
 module _ {noise weight extra x j : ℕ} {p : TankPlaces} {s : State} {before : List ℕ} (g : TanksReady noise weight extra x j p s before) where
   -- none is left
-  pub tanks-none : j ≡ extra → TanksAnswered Accepted noise weight extra x j p s before before
+  pub tanks-none : j ≡ extra → TanksAnswered (Ok tt) noise weight extra x j p s before before
   tanks-none last = done last
 
   -- tank j is
@@ -126,21 +125,21 @@ module _ {noise weight extra x j : ℕ} {p : TankPlaces} {s : State} {before : L
           (record { there = g.there; tank = tank-left; system_noise = g.system_noise; weighed = g.weighed; fits = g.fits j tank-left })
 
       turn-of :
-          {r : Verdict} {middle : List ℕ}
+          {r : Result Unit Refusal} {middle : List ℕ}
           → TankTurned r noise weight extra j p first before middle
-          → TankTurn (tank_input noise weight Nothing) (λ k. figures_of s (x + k)) (tank_place p extra) p.leads extra j r before middle
+          → TankTurn (tank_input noise weight None) (λ k. figures_of s (x + k)) (tank_place p extra) p.leads extra j r before middle
       turn-of {r} {middle} t = record { middle = t.middle; row = t.row; worked = rw old at t.worked }
 
       pub tanks-passed :
-          {r : Verdict} {k : Refusal} {middle : List ℕ}
-          → r ≡ Refused k
+          {r : Result Unit Refusal} {k : Refusal} {middle : List ℕ}
+          → r ≡ Err k
           → TankTurned r noise weight extra j p first before middle
-          → TanksAnswered (Refused AboveCeiling) noise weight extra x j p s before middle
+          → TanksAnswered (Err AboveCeiling) noise weight extra x j p s before middle
       tanks-passed a t = refused tank-left a (turn-of t)
 
       pub tanks-more :
-          {r turn : Verdict} {middle after : List ℕ}
-          → turn ≡ Accepted
+          {r turn : Result Unit Refusal} {middle after : List ℕ}
+          → turn ≡ (Ok tt)
           → TankTurned turn noise weight extra j p first before middle
           → TanksAnswered r noise weight extra x (j + 1) p s middle after
           → TanksAnswered r noise weight extra x j p s before after

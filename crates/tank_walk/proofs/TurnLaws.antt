@@ -1,5 +1,9 @@
 -- The turn of an element at a step or in a forecast, tank by tank: its sums moved to the row of the first tank, one turn a tank, and its last
 -- cell in its own row.
+use Rattle.rating.specs.declared.RatedReading.{RatedReading}
+use Prim.{Unit}
+use Rattle.std.specs.Prelude.{Result, Ok, Err, Option}
+use Rattle.refusal.specs.Answers.{answer_of}
 use Prim.Native.Nat.{ℕ, suc, ◌+◌, ◌*◌, ◌≤◌, ◌<◌}
 use mathlib.Core.Bool.{Bool, true, false, cond}
 use mathlib.Core.List.{List}
@@ -11,15 +15,11 @@ use native.Mathlib.Omega.{arith}
 use borrow.Author.Tests.{eqb-true, eqb-false}
 use lib.Dec.{eqb}
 use Rattle.refusal.specs.declared.Refusal.{Refusal}
-use Rattle.refusal.specs.declared.Verdict.{Verdict}
-use Rattle.refusal.specs.declared.Verdict.TheVariants.{Accepted, Refused}
-use Rattle.refusal.specs.Verdicts.{verdict_answer}
 use Rattle.refusal.proofs.RuleLaws.{not-both}
 use Rattle.units.proofs.UnderLaws.{Under, under-accepted}
 use Rattle.method.specs.declared.Figures.{Figures}
 use Rattle.elements.specs.declared.Element.{Element}
 use Rattle.table.specs.Tables.{TableValues}
-use Rattle.record.specs.declared.Observation.{Observation}
 use Rattle.walk.specs.Space.{Later}
 use Rattle.elements.specs.Kinds.{tanks, extra_tanks}
 use Rattle.table.specs.KindCounts.{extra_before}
@@ -59,7 +59,7 @@ module _ (t : TableValues) where
       ∙ inner-cell t (tank-in t i j l (omega (arith, m))) (omega (arith, m)))
 
 module _
-    (t : TableValues) (own : ℕ → ℕ → Figures) (o : ℕ → Observation) (old : ℕ → ℕ → Figures) (w from leads : ℕ)
+    (t : TableValues) (own : ℕ → ℕ → Figures) (o : ℕ → (Option RatedReading)) (old : ℕ → ℕ → Figures) (w from leads : ℕ)
     (wide : from + leads ≤ w) (Kept : ℕ → Type 0) (at : ℕ → ℕ) where
   abbrev pub WalkedBy : (ℕ → Inlet) → ℕ → List ℕ → Type 0
   WalkedBy inlet i space = Walked (cells t) own o old w from Kept at inlet leads i space
@@ -352,32 +352,32 @@ module _
         (again : (l k : ℕ) → old (suc l) k ≡ new_at (cells t) own o old w from Kept at l k) (c : ElementInput)
         (of : (j : ℕ) → j < extra → InputOf (cells t) own o old w from Kept at c (cell j) leads) (first : ℕ → Figures)
         (is : (j : ℕ) → j < extra → first j ≡ old 0 (cell j)) where
-      abbrev pub TanksAt : ℕ → Verdict → List ℕ → List ℕ → Type 0
+      abbrev pub TanksAt : ℕ → Result Unit Refusal → List ℕ → List ℕ → Type 0
       TanksAt = TanksWorked c first (λ j. tank_at j * w + from) leads extra
 
       pub tanks-walked :
-          {j : ℕ} {r : Verdict} {before after : List ℕ}
+          {j : ℕ} {r : Result Unit Refusal} {before after : List ℕ}
           → TanksAt j r before after
-          → r ≡ Accepted
+          → r ≡ (Ok tt)
           → WalkedBy (tank_inlet j) (cell j) before
           → WalkedBy (tank_inlet extra) (cell extra) after
       tanks-walked {before = before} (done e) a h = subst (λ (n : ℕ). WalkedBy (tank_inlet n) (cell n) before) e h
-      tanks-walked (refused l e m) a h = absurd (not-both (ap verdict_answer a) refl)
+      tanks-walked (refused l e m) a h = absurd (not-both (ap answer_of a) refl)
       tanks-walked {j} (more l e m rest) a h =
           tanks-walked rest a (tank-turn j l again c (of j l) (first j) (is j l) h m.row (m.worked.done e))
 
       -- 16 at one of them: some number of the network passes
       pub tanks-refused :
-          {j : ℕ} {r : Verdict} {k : Refusal} {before after : List ℕ}
+          {j : ℕ} {r : Result Unit Refusal} {k : Refusal} {before after : List ℕ}
           → TanksAt j r before after
-          → r ≡ Refused k
+          → r ≡ Err k
           → WalkedBy (tank_inlet j) (cell j) before
           → ((l : ℕ) → l < leads → Under (numbers_at (cells t) own o old w from Kept at l (cells t).elements))
           → ⊥
       unfolding cells last_cell extra_before
-      tanks-refused (done e) a h u = not-both refl (ap verdict_answer a)
+      tanks-refused (done e) a h u = not-both refl (ap answer_of a)
       tanks-refused {j} (refused l e m) a h u =
-          not-both (sym (under-accepted tt _ under)) (sym m.worked.verdict ∙ ap verdict_answer e)
+          not-both (sym (under-accepted tt _ under)) (sym m.worked.verdict ∙ ap answer_of e)
         where
           under : Under (numbers_after c (first j) (drained_at m.middle (tank_at j * w + from)) leads)
           under =

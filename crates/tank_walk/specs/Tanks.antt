@@ -1,15 +1,13 @@
 -- Serves the code: what it relies on at the tanks of one element above its last, and what it has worked out.
-use Rattle.std.specs.Prelude.{ℕ, ◌+◌, ◌*◌, ◌≤◌, ◌<◌, cond, List, ◌≢◌, ◌≡◌, eqb, length}
+use Prim.{Unit}
+use Rattle.std.specs.Prelude.{ℕ, ◌+◌, ◌*◌, ◌≤◌, ◌<◌, cond, List, ◌≢◌, ◌≡◌, eqb, length, Result, Ok, Err, None}
 use Rattle.sizes.specs.Sizes.{most_places, most_leads}
 use Rattle.refusal.specs.declared.Refusal.{Refusal}
 use Rattle.refusal.specs.declared.Refusal.TheVariants.{AboveCeiling}
-use Rattle.refusal.specs.declared.Verdict.{Verdict}
-use Rattle.refusal.specs.declared.Verdict.TheVariants.{Accepted, Refused}
 use Rattle.units.specs.Units.{C, S}
 use Rattle.method.specs.declared.Figures.{Figures}
 use Rattle.method.specs.Figures.{FiguresFit}
 use Rattle.method.specs.Inflow.{no_inflow}
-use Rattle.record.specs.declared.Observation.TheVariants.{Nothing}
 use Rattle.state.specs.States.{State, figures_of}
 use Rattle.answer_space.specs.Places.{figures_at}
 use Rattle.one_lead.specs.declared.ElementInput.{ElementInput}
@@ -42,24 +40,24 @@ pub record RowMoved (source place leads : ℕ) (before after : List ℕ) : Type 
 -- tanks of an element, each from its figures before; the places of tank j begin at `place j`
 module _ (c : ElementInput) (first : ℕ → Figures) (place : ℕ → ℕ) (leads extra : ℕ) where
   -- the turn of tank j: the places of the next are cleared before it
-  pub record TankTurn (j : ℕ) (r : Verdict) (before after : List ℕ) : Type 0 where
+  pub record TankTurn (j : ℕ) (r : Result Unit Refusal) (before after : List ℕ) : Type 0 where
     pub middle : List ℕ
     pub row : RowCleared (place (j + 1)) leads before middle
     pub worked : ElementWorked r c (first j) (place j) (place (j + 1)) leads middle after
 
   -- from tank j to the one above the last, one after the other
-  pub data TanksWorked : ℕ → Verdict → List ℕ → List ℕ → Type 0 where
-    done : {j : ℕ} {space : List ℕ} → j ≡ extra → TanksWorked j Accepted space space
+  pub data TanksWorked : ℕ → Result Unit Refusal → List ℕ → List ℕ → Type 0 where
+    done : {j : ℕ} {space : List ℕ} → j ≡ extra → TanksWorked j (Ok tt) space space
     refused :
-        {j : ℕ} {r : Verdict} {k : Refusal} {before after : List ℕ}
+        {j : ℕ} {r : Result Unit Refusal} {k : Refusal} {before after : List ℕ}
         → j < extra
-        → r ≡ Refused k
+        → r ≡ Err k
         → TankTurn j r before after
-        → TanksWorked j (Refused AboveCeiling) before after
+        → TanksWorked j (Err AboveCeiling) before after
     more :
-        {j : ℕ} {r turn : Verdict} {before middle after : List ℕ}
+        {j : ℕ} {r turn : Result Unit Refusal} {before middle after : List ℕ}
         → j < extra
-        → turn ≡ Accepted
+        → turn ≡ (Ok tt)
         → TankTurn j turn before middle
         → TanksWorked (j + 1) r middle after
         → TanksWorked j r before after
@@ -82,9 +80,9 @@ pub record TankTurnReady (noise weight extra j : ℕ) (p : TankPlaces) (first : 
   pub weighed : weight ≤ S
   pub fits : FiguresFit first
 
-abbrev pub TankTurned : Verdict → ℕ → ℕ → ℕ → ℕ → TankPlaces → Figures → List ℕ → List ℕ → Type 0
+abbrev pub TankTurned : Result Unit Refusal → ℕ → ℕ → ℕ → ℕ → TankPlaces → Figures → List ℕ → List ℕ → Type 0
 TankTurned r noise weight extra j p first before after =
-    TankTurn (tank_input noise weight Nothing) (λ k. first) (tank_place p extra) p.leads extra j r before after
+    TankTurn (tank_input noise weight None) (λ k. first) (tank_place p extra) p.leads extra j r before after
 
 -- the tanks from tank j on: their figures stand from place x of the state on
 pub record TanksReady (noise weight extra x j : ℕ) (p : TankPlaces) (s : State) (space : List ℕ) : Type 0 where
@@ -95,13 +93,13 @@ pub record TanksReady (noise weight extra x j : ℕ) (p : TankPlaces) (s : State
   pub weighed : weight ≤ S
   pub fits : (k : ℕ) → k < extra → FiguresFit (figures_of s (x + k))
 
-abbrev pub TanksAnswered : Verdict → ℕ → ℕ → ℕ → ℕ → ℕ → TankPlaces → State → List ℕ → List ℕ → Type 0
+abbrev pub TanksAnswered : Result Unit Refusal → ℕ → ℕ → ℕ → ℕ → ℕ → TankPlaces → State → List ℕ → List ℕ → Type 0
 TanksAnswered r noise weight extra x j p s before after =
-    TanksWorked (tank_input noise weight Nothing) (λ k. figures_of s (x + k)) (tank_place p extra) p.leads extra j r before after
+    TanksWorked (tank_input noise weight None) (λ k. figures_of s (x + k)) (tank_place p extra) p.leads extra j r before after
 
 -- an element of tanks before the turn of its last: its sums were moved to the places of the first, and the tanks above the last worked out,
 -- or 16
-pub record TanksOpened (r : Verdict) (noise weight extra x : ℕ) (p : TankPlaces) (s : State) (before after : List ℕ) : Type 0 where
+pub record TanksOpened (r : Result Unit Refusal) (noise weight extra x : ℕ) (p : TankPlaces) (s : State) (before after : List ℕ) : Type 0 where
   pub middle : List ℕ
   pub row : RowMoved p.own p.first p.leads before middle
   pub worked : TanksAnswered r noise weight extra x 0 p s middle after

@@ -7,8 +7,7 @@ ghost use Rattle.tank_walk.specs.Tanks.{tank_place, RowCleared, RowMoved, MoveRe
 use answer_space::{figures_at, put_figures};
 use lead_walk::store_tank;
 use method::Figures;
-use record::Observation;
-use refusal::{Refusal, Verdict};
+use refusal::Refusal;
 use sizes::STATE_NUMBERS;
 use state::figures_of;
 use units::{Discharge, Variance};
@@ -70,7 +69,7 @@ fn work_tank(
     places: TankPlaces,
     first: Figures,
     space: &mut [u64],
-) -> Verdict
+) -> Result<(), Refusal>
     requires { TankTurnReady noise weight extra j places first space.old }
     ensures { TankTurned result noise weight extra j places first space.old space.new }
 {
@@ -81,7 +80,7 @@ fn work_tank(
     store_tank(
         noise,
         weight,
-        Observation::Nothing,
+        None,
         first,
         here,
         below,
@@ -101,17 +100,15 @@ fn work_tanks(
     places: TankPlaces,
     state: &[u64; STATE_NUMBERS],
     space: &mut [u64],
-) -> Verdict
+) -> Result<(), Refusal>
     requires { TanksReady noise weight extra x j places state.now space.old }
     ensures { TanksAnswered result noise weight extra x j places state.now space.old space.new }
 {
     if j == extra {
-        return Verdict::Accepted;
+        return Ok(());
     }
     let first = figures_of(state, x + j);
-    let Verdict::Accepted = work_tank(noise, weight, extra, j, places, first, &mut *space) else {
-        return Verdict::Refused(Refusal::AboveCeiling);
-    };
+    work_tank(noise, weight, extra, j, places, first, &mut *space)?;
     work_tanks(noise, weight, extra, x, j + 1, places, state, space)
 }
 
@@ -125,7 +122,7 @@ pub fn open_tanks(
     places: TankPlaces,
     state: &[u64; STATE_NUMBERS],
     space: &mut [u64],
-) -> Verdict
+) -> Result<(), Refusal>
     requires { TanksReady noise weight extra x 0 places state.now space.old }
     ensures { TanksOpened result noise weight extra x places state.now space.old space.new }
 {

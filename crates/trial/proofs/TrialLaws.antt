@@ -1,4 +1,7 @@
 -- The figures of a trial: those that the step would leave, copied out of the working space; its rules in checking order.
+use Prim.{Unit}
+use Rattle.std.specs.Prelude.{Result, Ok, Err}
+use Rattle.refusal.specs.Answers.{answer_of}
 use Prim.Native.Nat.{ℕ, zero, suc, ◌+◌, ◌*◌, ◌≤◌, ◌<◌}
 use mathlib.Core.Bool.{false}
 use mathlib.Core.List.{List}
@@ -10,9 +13,6 @@ use lib.Seq.{paste}
 use Rattle.sizes.specs.Sizes.{most_places}
 use Rattle.refusal.specs.declared.Refusal.{Refusal}
 use Rattle.refusal.specs.declared.Refusal.TheVariants.{StateRange}
-use Rattle.refusal.specs.declared.Verdict.{Verdict}
-use Rattle.refusal.specs.declared.Verdict.TheVariants.{Accepted, Refused}
-use Rattle.refusal.specs.Verdicts.{verdict_answer}
 use Rattle.table.specs.Tables.{TableValues}
 use Rattle.table.specs.KindCounts.{extra_count}
 use Rattle.table.specs.InUse.{table_in}
@@ -22,8 +22,6 @@ use Rattle.method.specs.declared.Figures.{Figures}
 use Rattle.record.specs.Records.{input_at}
 use Rattle.state.specs.States.{State}
 use Rattle.state.specs.Rules.{state_fits}
-use Rattle.network.specs.declared.ForecastAnswer.{ForecastAnswer}
-use Rattle.network.specs.declared.ForecastAnswer.TheVariants as of-forecast
 use Rattle.network.specs.Step.{stepped}
 use Rattle.network.specs.Forecast.{lead_figures}
 use Rattle.network.specs.Lent.{layout}
@@ -40,7 +38,7 @@ use Rattle.record_step.proofs.StepLaws.{worked-accepted, worked-refused}
 use Rattle.trial.specs.Held.{AnswerReady, FiguresWritten, TrialHeld}
 
 -- a verdict has one refusal
-pub same-refusal : {v : Verdict} {j k : Refusal} → v ≡ Refused j → v ≡ Refused k → j ≡ k
+pub same-refusal : {v : Result Unit Refusal} {j k : Refusal} → v ≡ Err j → v ≡ Err k → j ≡ k
 same-refusal p q = cc
 
 -- so many tanks above the last of their elements
@@ -66,7 +64,7 @@ module _ (table bytes : List ℕ) (s : State) where
   next = stepped t (input_at (cells t) bytes) s
 
   -- 8
-  pub state-refused : (out : List ℕ) → state_fits t s ≡ false → TrialHeld (of-forecast.Refused StateRange) out table bytes s out
+  pub state-refused : (out : List ℕ) → state_fits t s ≡ false → TrialHeld (Err StateRange) out table bytes s out
   unfolding step_rules
   state-refused out h = lent-refused out _ StateRange (rw h)
 
@@ -75,10 +73,10 @@ module _ (table bytes : List ℕ) (s : State) where
   unfolding tried_answer worked_answer
   tried-as room = refl
 
-  module _ {v : Verdict} {space : List ℕ} (out : List ℕ) (w : RecordWorked v space t bytes s (length out)) where
-    rules-refused : (k : Refusal) → v ≡ Refused k → TrialHeld (of-forecast.Refused k) out table bytes s out
+  module _ {v : Result Unit Refusal} {space : List ℕ} (out : List ℕ) (w : RecordWorked v space t bytes s (length out)) where
+    rules-refused : (k : Refusal) → v ≡ Err k → TrialHeld (Err k) out table bytes s out
     rules-refused k e =
-        lent-refused out _ k (tried-as (length out) ∙ worked-refused t bytes s (length out) _ (sym w.decided ∙ ap verdict_answer e))
+        lent-refused out _ k (tried-as (length out) ∙ worked-refused t bytes s (length out) _ (sym w.decided ∙ ap answer_of e))
 
     module _ (few : t.elements + extra_count t ≤ most_places) (room : 4 * (t.elements + 1) ≤ length space) where
       unfoldable figures : ℕ → ℕ → Figures
@@ -109,19 +107,19 @@ module _ (table bytes : List ℕ) (s : State) where
 
       all-written :
           {after : List ℕ} {needed : ℕ}
-          → v ≡ Accepted
+          → v ≡ (Ok tt)
           → needed ≡ 4 * t.elements
           → after ≡ paste out 0 (drop 4 space) needed
-          → TrialHeld (of-forecast.Accepted needed) after table bytes s out
+          → TrialHeld (Ok needed) after table bytes s out
       all-written e is a =
           figures-lent out (drop 4 space)
-          (tried-as (length out) ∙ worked-accepted t bytes s (length out) _ (sym w.decided ∙ ap verdict_answer e))
+          (tried-as (length out) ∙ worked-accepted t bytes s (length out) _ (sym w.decided ∙ ap answer_of e))
           layout-size (laid (w.held e)) is a is
 
   -- the answer by what was worked out
   module _ {n extra basins dams : ℕ} (g : RiverGiven table n extra basins dams s) where
     pub answer-ready :
-        {v : Verdict} {space out : List ℕ}
+        {v : Result Unit Refusal} {space out : List ℕ}
         → RecordWorked v space t bytes s (length out)
         → 4 * (n + 1) ≤ length space
         → AnswerReady v n space out
@@ -133,13 +131,13 @@ module _ (table bytes : List ℕ) (s : State) where
         }
 
     pub trial-held :
-        (v : Verdict) (space out : List ℕ) {r : ForecastAnswer} {after : List ℕ}
+        (v : Result Unit Refusal) (space out : List ℕ) {r : Result ℕ Refusal} {after : List ℕ}
         → RecordWorked v space t bytes s (length out)
         → 4 * (n + 1) ≤ length space
         → FiguresWritten v n space out r after
         → TrialHeld r after table bytes s out
-    trial-held Accepted space out w room h =
+    trial-held (Ok tt) space out w room h =
         let a = h.written refl in
         rw a.0
         (all-written out w g.accepts.bounds.places_most (omega (arith, g.elements)) refl (ap (λ (k : ℕ). 4 * k) g.elements) a.1)
-    trial-held (Refused k) space out w room h = let a = h.kept k refl in rw (a.0, a.1) (rules-refused out w k refl)
+    trial-held (Err k) space out w room h = let a = h.kept k refl in rw (a.0, a.1) (rules-refused out w k refl)

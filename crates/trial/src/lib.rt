@@ -12,27 +12,22 @@ ghost use Rattle.entries.specs.Trials.{trial_answer};
 ghost use Rattle.trial.specs.Held.{AnswerReady, FiguresWritten, TrialHeld};
 
 use answer_space::write_figures;
-use network::ForecastAnswer;
 use record_step::work_record;
-use refusal::{Refusal, Verdict};
-use sizes::{
-    MEDIUM_PLACES, MEDIUM_STEP_SPACE, MIDDLE_ELEMENTS, MIDDLE_STEP_SPACE, MOST_ELEMENTS,
-    OBSERVED_NUMBERS, SMALL_ELEMENTS, SMALL_OBSERVED_NUMBERS, SMALL_STEP_SPACE, STATE_NUMBERS,
-    STEP_SPACE,
-};
+use refusal::Refusal;
+use sizes::{MEDIUM_PLACES, MEDIUM_STEP_SPACE, MIDDLE_ELEMENTS, MIDDLE_STEP_SPACE, MOST_ELEMENTS, OBSERVED_NUMBERS, SMALL_ELEMENTS, SMALL_OBSERVED_NUMBERS, SMALL_STEP_SPACE, STATE_NUMBERS, STEP_SPACE};
 use table::Counts;
 
 // What a trial answers: the figures of n elements, put into the lent space where they were worked out.
-fn answer_trial(verdict: Verdict, n: usize, space: &[u64], out: &mut [u64]) -> ForecastAnswer
+fn answer_trial(verdict: Result<(), Refusal>, n: usize, space: &[u64], out: &mut [u64]) -> Result<usize, Refusal>
     requires { AnswerReady verdict n space.now out.old }
     ensures { FiguresWritten verdict n space.now out.old result out.new }
 {
     match verdict {
-        Verdict::Accepted => {
+        Ok(()) => {
             write_figures(space, n, out);
-            ForecastAnswer::Accepted(4 * n)
+            Ok(4 * n)
         }
-        Verdict::Refused(refusal) => ForecastAnswer::Refused(refusal),
+        Err(refusal) => Err(refusal),
     }
 }
 
@@ -45,7 +40,7 @@ fn trial_small(
     bytes: &[u8],
     state: &[u64; STATE_NUMBERS],
     out: &mut [u64],
-) -> ForecastAnswer
+) -> Result<usize, Refusal>
     requires { RiverGiven table.now n (extra_count (table_in table.now)) basins dams state.now × (n + extra_count (table_in table.now) ≤ small_elements) }
     ensures { TrialHeld result out.new table.now bytes.now state.now out.old }
 {
@@ -74,7 +69,7 @@ fn trial_middle(
     bytes: &[u8],
     state: &[u64; STATE_NUMBERS],
     out: &mut [u64],
-) -> ForecastAnswer
+) -> Result<usize, Refusal>
     requires { RiverGiven table.now n (extra_count (table_in table.now)) basins dams state.now × (n + extra_count (table_in table.now) ≤ middle_elements) }
     ensures { TrialHeld result out.new table.now bytes.now state.now out.old }
 {
@@ -103,7 +98,7 @@ fn trial_medium(
     bytes: &[u8],
     state: &[u64; STATE_NUMBERS],
     out: &mut [u64],
-) -> ForecastAnswer
+) -> Result<usize, Refusal>
     requires { RiverGiven table.now n (extra_count (table_in table.now)) basins dams state.now × (n + extra_count (table_in table.now) ≤ medium_places) }
     ensures { TrialHeld result out.new table.now bytes.now state.now out.old }
 {
@@ -134,7 +129,7 @@ fn trial_large(
     state: &[u64; STATE_NUMBERS],
     out: &mut [u64],
     again: bool,
-) -> ForecastAnswer
+) -> Result<usize, Refusal>
     requires { RiverGiven table.now n (extra_count (table_in table.now)) basins dams state.now }
     ensures { TrialHeld result out.new table.now bytes.now state.now out.old }
 {
@@ -165,7 +160,7 @@ fn trial_counted(
     bytes: &[u8],
     state: &[u64; STATE_NUMBERS],
     out: &mut [u64],
-) -> ForecastAnswer
+) -> Result<usize, Refusal>
     requires { CountedPlaces table.now counts }
     ensures { TrialHeld result out.new table.now bytes.now state.now out.old }
 {
@@ -174,10 +169,10 @@ fn trial_counted(
     let dams = counts.dams;
     let places = n + counts.extra;
     if !state_rules::state_fits(table, n, state) {
-        return ForecastAnswer::Refused(Refusal::StateRange);
+        return Err(Refusal::StateRange);
     }
     if !state_rules::tanks_fit(n, counts.extra, state) {
-        return ForecastAnswer::Refused(Refusal::StateRange);
+        return Err(Refusal::StateRange);
     }
     if places <= SMALL_ELEMENTS {
         return trial_small(table, n, basins, dams, bytes, state, out);
@@ -206,13 +201,9 @@ pub fn trial(
     bytes: &[u8],
     state: &[u64; STATE_NUMBERS],
     out: &mut [u64],
-) -> ForecastAnswer
+) -> Result<usize, Refusal>
     ensures { Lent result out.new (trial_answer table.now bytes.now state.now (length out.old)) out.old }
 {
-    let read = table_reader::read(table);
-    let verdict = read.verdict;
-    match verdict {
-        Verdict::Accepted => trial_counted(table, read.counts, bytes, state, out),
-        Verdict::Refused(refusal) => ForecastAnswer::Refused(refusal),
-    }
+    let counts = table_reader::read(table)?;
+    trial_counted(table, counts, bytes, state, out)
 }

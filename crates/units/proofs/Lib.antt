@@ -1,2 +1,3 @@
 pub mod CeilingLaws
+pub mod AnswerLaws
 pub mod UnderLaws

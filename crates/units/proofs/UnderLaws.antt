@@ -7,12 +7,11 @@ use mathlib.Core.Path.{◌≡◌, refl, sym, ap, ◌∙◌}
 use borrow.Author.Tests.{ltb-false}
 use native.Mathlib.Omega.{arith}
 use lib.Dec.{ltb}
-use Rattle.refusal.specs.Answers.{Answer, accepted, refused}
+use Rattle.std.specs.Prelude.{Result, Ok}
+use Rattle.refusal.specs.declared.Refusal.{Refusal}
+use Rattle.refusal.specs.Answers.{Answer, accepted, refused, answer_of}
 use Rattle.units.specs.Units.{C}
 use Rattle.units.specs.Ceiling.{some_passes, under_ceiling}
-use Rattle.refusal.specs.declared.Verdict.{Verdict}
-use Rattle.refusal.specs.declared.Verdict.TheVariants.{Accepted}
-use Rattle.refusal.specs.Verdicts.{verdict_answer}
 
 -- no number of a list passes C
 abbrev pub Under : List ℕ → Type 0
@@ -64,9 +63,9 @@ known_under a ns {x} h = go (some_passes ns) h
     go true k = let z : ◌≡◌ {A = ℕ} 0 1 = cc in absurd (omega arith)
     go false k = refl
 
-pub accepted-under : (ns : List ℕ) (v : Verdict) → verdict_answer v ≡ under_ceiling {A = Unit} ns tt → v ≡ Accepted → Under ns
+pub accepted-under : (ns : List ℕ) (r : Result Unit Refusal) → answer_of r ≡ under_ceiling {A = Unit} ns tt → r ≡ Ok tt → Under ns
 unfolding under_ceiling
-accepted-under ns v h e = known_under tt ns (sym (ap verdict_answer e) ∙ h)
+accepted-under ns r h e = known_under tt ns (sym (ap answer_of e) ∙ h)
 
 -- 16 on a part is 16 on the whole
 pub refused-whole :

@@ -22,30 +22,37 @@ pub struct Variance(pub u64);
 #[derive(Clone, Copy)]
 pub struct Stage(pub u64);
 
+// The ceiling C of every number that these types hold.
+const CEILING: u64 = 4_000_000_000;
+
+// What so many units make, or the refusal of a count that passes the ceiling.
+fn under_ceiling<Q: Copy>(count: u64, quantity: Q) -> Result<Q, Refusal>
+    ensures { answer_of result ≡ under_ceiling (count ∷ []) quantity }
+{
+    if CEILING < count {
+        return Err(Refusal::AboveCeiling);
+    }
+    Ok(quantity)
+}
+
 impl Discharge {
-    pub const CEILING: u64 = 4_000_000_000;
+    pub const CEILING: u64 = CEILING;
 
     // The discharge of so many grains, or the refusal of one that passes the ceiling.
     pub fn new(count: u64) -> Result<Self, Refusal>
         ensures { answer_of result ≡ under_ceiling (count ∷ []) (grains count) }
     {
-        if Self::CEILING < count {
-            return Err(Refusal::AboveCeiling);
-        }
-        Ok(Discharge(count))
+        under_ceiling(count, Discharge(count))
     }
 }
 
 impl Variance {
-    pub const CEILING: u64 = 4_000_000_000;
+    pub const CEILING: u64 = CEILING;
 
     // The variance of so many thousandths, or the refusal of one that passes the ceiling.
     pub fn new(count: u64) -> Result<Self, Refusal>
         ensures { answer_of result ≡ under_ceiling (count ∷ []) (thousandths count) }
     {
-        if Self::CEILING < count {
-            return Err(Refusal::AboveCeiling);
-        }
-        Ok(Variance(count))
+        under_ceiling(count, Variance(count))
     }
 }

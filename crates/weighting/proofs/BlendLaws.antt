@@ -1,4 +1,5 @@
 -- Laws of the blend.
+use Rattle.std.specs.Prelude.{Result, Ok}
 use Prim.Native.Nat.{ℕ, ◌+◌, ◌-◌, ◌*◌, ◌/◌, ◌≤◌, ◌<◌}
 use mathlib.Core.Path.{◌≡◌, ap, sym, ◌∙◌}
 use native.Mathlib.Nat.{mul-le-mul, mul-le-mul_left, div-le_of_le-mul}
@@ -6,11 +7,8 @@ use native.Mathlib.Omega.{arith}
 use Rattle.units.specs.Units.{C, S}
 use Rattle.weighting.specs.declared.Estimate.{Estimate}
 use Rattle.units.proofs.CeilingLaws.{passes, stays, none_left, refused-one, accepted-one}
-use Rattle.refusal.specs.Answers.{accepted, refused}
+use Rattle.refusal.specs.Answers.{accepted, refused, answer_of}
 use Rattle.refusal.specs.declared.Refusal.{Refusal}
-use Rattle.weighting.specs.declared.EstimateAnswer.{EstimateAnswer}
-use Rattle.weighting.specs.declared.EstimateAnswer.TheVariants as of-estimate
-use Rattle.weighting.specs.Estimates.{estimate_answer}
 use Rattle.weighting.specs.Estimates.{estimate}
 use Rattle.weighting.specs.Blend.{weighted_mean, gap_of, blended, blend_answer}
 
@@ -59,17 +57,17 @@ module _ (w g : ℕ) (x y b : Estimate) (same : b ≡ blended w g x y) where
 -- what an answer of the blend says
 module _ (w g : ℕ) (x y : Estimate) where
   pub blend-known :
-      {r : EstimateAnswer} {e : Estimate}
-      → r ≡ of-estimate.Accepted e
-      → estimate_answer r ≡ blend_answer w g x y
+      {r : Result Estimate Refusal} {e : Estimate}
+      → r ≡ Ok e
+      → answer_of r ≡ blend_answer w g x y
       → ((blended w g x y).margin ≤ C) × (e ≡ blended w g x y)
   unfolding blend_answer
-  blend-known p q = accepted-one _ _ (sym (ap estimate_answer p) ∙ q)
+  blend-known p q = accepted-one _ _ (sym (ap answer_of p) ∙ q)
 
   pub blend-over :
-      {r : EstimateAnswer} {k : Refusal}
-      → r ≡ of-estimate.Refused k
-      → estimate_answer r ≡ blend_answer w g x y
+      {r : Result Estimate Refusal} {k : Refusal}
+      → r ≡ Err k
+      → answer_of r ≡ blend_answer w g x y
       → C < (blended w g x y).margin
   unfolding blend_answer
-  blend-over p q = refused-one _ _ (sym (ap estimate_answer p) ∙ q)
+  blend-over p q = refused-one _ _ (sym (ap answer_of p) ∙ q)

@@ -16,9 +16,3 @@ pub struct Estimate {
     pub margin: u64,
 }
 
-// A number with its margin, or the refusal of one.
-#[derive(Clone, Copy)]
-pub enum EstimateAnswer {
-    Accepted(Estimate),
-    Refused(Refusal),
-}

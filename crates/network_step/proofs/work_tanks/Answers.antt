@@ -1,10 +1,10 @@
 -- `work_tanks` meets its contract.
+use Rattle.refusal.specs.Answers.{answer_of}
 use Prim.Native.Nat.{ℕ, ◌≤◌}
 use mathlib.Core.List.{List}
 use mathlib.Core.Path.{◌≡◌, refl, sym, ap, ◌∙◌}
 use native.Mathlib.Omega.{arith}
 use lib.ListN.{get_or}
-use Rattle.refusal.specs.Verdicts.{verdict_answer}
 use Rattle.refusal.proofs.RuleLaws.{not-both}
 use Rattle.units.specs.Units.{S}
 use Rattle.elements.specs.declared.Element.{Element}
@@ -127,7 +127,7 @@ returns-in_default c =
     record {
       by = λ basins bytes q.
           record {
-            done = λ a. absurd (not-both (ap verdict_answer a) refl);
+            done = λ a. absurd (not-both (ap answer_of a) refl);
             passes = λ k _.
                 opened-passes _ bytes _ q.run.ready.accepts q.run.ready.state _ q.used q.kind (system-2 c q) (weighed-2 c q).0
                 q.run.reached.tank (many-2 c q) q.run.reached.walked c.open_tanks-opened.ensures c.in_default.is;

@@ -1,4 +1,5 @@
 -- `step_in` meets its contract.
+use Rattle.std.specs.Prelude.{Ok}
 use Prim.Native.Nat.{ℕ, ◌+◌, ◌*◌}
 use mathlib.Core.Bool.{Bool, true, false}
 use mathlib.Core.List.{[]}
@@ -7,7 +8,6 @@ use native.Mathlib.Omega.{arith}
 use lib.ListN.{length, take}
 use lib.Seq.{length-take-le}
 use Rattle.table.specs.InUse.{table_in}
-use Rattle.refusal.specs.declared.Verdict.TheVariants.{Accepted}
 use Rattle.answer_space.proofs.EmptyLaws.{none-at}
 use Rattle.network_step.specs.Held.{under_verdict}
 use Rattle.record_step.specs.Judged.{RecordWorked, WriteGiven}
@@ -65,7 +65,7 @@ worked-2 w under e =
 given :
     (w : goal.After-write_tanks-arg-1)
     → w.work_step.result ≡ true
-    → WriteGiven Accepted w.args.table.now w.args.counts.elements w.args.counts.extra w.args.bytes.now
+    → WriteGiven (Ok tt) w.args.table.now w.args.counts.elements w.args.counts.extra w.args.bytes.now
     w.work_step.new.space w.args.state.now
 unfolding under_verdict
 given w e =
@@ -103,7 +103,7 @@ worked-3 w under e =
 given-2 :
     (w : goal.After-write_state-arg-1)
     → w.work_step.result ≡ true
-    → WriteGiven Accepted w.args.table.now w.args.counts.elements w.args.counts.extra w.args.bytes.now
+    → WriteGiven (Ok tt) w.args.table.now w.args.counts.elements w.args.counts.extra w.args.bytes.now
     w.work_step.new.space w.args.state.now
 unfolding under_verdict
 given-2 w e =
@@ -141,7 +141,7 @@ worked-4 w under e =
 given-3 :
     (w : goal.After-slice_known-4-1)
     → w.work_step.result ≡ true
-    → WriteGiven Accepted w.args.table.now w.args.counts.elements w.args.counts.extra w.args.bytes.now
+    → WriteGiven (Ok tt) w.args.table.now w.args.counts.elements w.args.counts.extra w.args.bytes.now
     w.work_step.new.space w.args.state.now
 unfolding under_verdict
 given-3 w e =

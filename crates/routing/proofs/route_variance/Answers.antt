@@ -1,9 +1,10 @@
 -- `route_variance` meets its contract.
+use Rattle.refusal.specs.Answers.{answer_of}
 use Prim.Native.Nat.{◌-◌}
 use mathlib.Core.Path.{◌≡◌, sym, subst}
 use native.Mathlib.Omega.{arith}
 use Rattle.units.specs.Units.{S}
-use Rattle.weighting.specs.Estimates.{estimate, estimate_answer, EstimateFits, AnsweredEstimateFits}
+use Rattle.weighting.specs.Estimates.{estimate, EstimateFits, AnsweredEstimateFits}
 use Rattle.weighting.specs.Blend.{blend_answer}
 use Rattle.weighting.proofs.BlendLaws.{blend-known, blend-over}
 use Rattle.method.specs.Figures.{variance}
@@ -14,33 +15,33 @@ use Rattle.routing.proofs.route_variance.Goals as goal
 -- what the parts answer, of the variances that were read off
 old-answered :
     (c : goal.In_default)
-    → estimate_answer c.variance_part.result
+    → answer_of c.variance_part.result
     ≡ blend_answer c.args.weight 3 (variance c.args.old) (estimate 0 0)
 old-answered c = rw c.variance_estimate.ensures at c.variance_part.ensures.0
 
 -- what the parts answer, of the variances that were read off
 old-answered-2 :
     (c : goal.In_default-variance_part)
-    → estimate_answer c.variance_part.result
+    → answer_of c.variance_part.result
     ≡ blend_answer c.args.weight 3 (variance c.args.old) (estimate 0 0)
 old-answered-2 c = rw c.variance_estimate.ensures at c.variance_part.ensures.0
 
 inflow-answered :
     (c : goal.In_default-variance_part)
-    → estimate_answer c.variance_part-2.result
+    → answer_of c.variance_part-2.result
     ≡ blend_answer (S - c.args.weight) 3 (variance c.args.inflow) (estimate 0 0)
 inflow-answered c = rw c.variance_estimate-2.ensures at c.variance_part-2.ensures.0
 
 -- what the parts answer, of the variances that were read off
 old-answered-3 :
     (c : goal.After-struct_known-1)
-    → estimate_answer c.variance_part.result
+    → answer_of c.variance_part.result
     ≡ blend_answer c.args.weight 3 (variance c.args.old) (estimate 0 0)
 old-answered-3 c = rw c.variance_estimate.ensures at c.variance_part.ensures.0
 
 inflow-answered-2 :
     (c : goal.After-struct_known-1)
-    → estimate_answer c.variance_part-2.result
+    → answer_of c.variance_part-2.result
     ≡ blend_answer (S - c.args.weight) 3 (variance c.args.inflow) (estimate 0 0)
 inflow-answered-2 c = rw c.variance_estimate-2.ensures at c.variance_part-2.ensures.0
 

@@ -1,9 +1,9 @@
 -- `look_along` meets its contract: the stage has reached the tops of the pieces that were read before.
+use Rattle.refusal.specs.Answers.{answer_of}
 use Prim.Native.Nat.{◌+◌, ◌*◌, ◌<◌}
 use mathlib.Core.Path.{◌≡◌, sym, ap, ◌∙◌}
 use native.Mathlib.Omega.{arith}
 use lib.ListN.{get_or}
-use Rattle.units.specs.Answers.{discharge_answer}
 use Rattle.rating.specs.Rating.{pieces_of, on_piece, rated, no_piece, CurveFits}
 use Rattle.rating.specs.Looks.{piece_number}
 use Rattle.rating.proofs.RatingLaws.{rating-fits}
@@ -88,7 +88,7 @@ top c = c.whole16.ensures.0 ∙ ap (λ p. p.top.0) (here-4 c)
 -- what the piece gives
 answered :
     (c : goal.After-rate_on_piece-answer)
-    → (discharge_answer c.rate_on_piece-answer.result ≡ rated c.args.stage (pieces_of (curve_at c.args.table.now c.args.at)))
+    → (answer_of c.rate_on_piece-answer.result ≡ rated c.args.stage (pieces_of (curve_at c.args.table.now c.args.at)))
     × (piece_number c.args.stage (pieces_of (curve_at c.args.table.now c.args.at)) ≡ c.loop-answer.pieces + 1)
 answered c =
     let c = c in
@@ -121,7 +121,7 @@ top-2 c = c.whole16.ensures.0 ∙ ap (λ p. p.top.0) (here-5 c)
 -- what the piece gives
 answered-2 :
     (c : goal.After-with_noise)
-    → (discharge_answer c.rate_on_piece-answer.result ≡ rated c.args.stage (pieces_of (curve_at c.args.table.now c.args.at)))
+    → (answer_of c.rate_on_piece-answer.result ≡ rated c.args.stage (pieces_of (curve_at c.args.table.now c.args.at)))
     × (piece_number c.args.stage (pieces_of (curve_at c.args.table.now c.args.at)) ≡ c.loop-answer.pieces + 1)
 answered-2 c =
     let c = c in

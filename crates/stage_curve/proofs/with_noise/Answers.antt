@@ -1,6 +1,6 @@
 -- `with_noise` meets its contract.
+use Rattle.refusal.specs.Answers.{answer_of}
 use mathlib.Core.Path.{ap, subst}
-use Rattle.units.specs.Answers.{discharge_answer}
 use Rattle.rating.specs.Noise.{with_noise}
 use Rattle.rating.specs.Bounds.{RatingFits}
 use Rattle.gauges.specs.Gauges.{gauge_from}
@@ -12,7 +12,7 @@ pub noise_of-noise-requires : goal.noise_of-noise-requires
 unfolding RatingFits
 noise_of-noise-requires c =
     let p = c.requires in
-    (noise-read _ _ c.whole32.ensures.0 c.beta_at-beta.ensures p.0.1.noise, subst RatingFits (ap discharge_answer c.in-Accepted.is) p.1)
+    (noise-read _ _ c.whole32.ensures.0 c.beta_at-beta.ensures p.0.1.noise, subst RatingFits (ap answer_of c.in-Accepted.is) p.1)
 
 pub returns-in-Accepted : goal.returns-in-Accepted
 unfolding look_by with_noise gauge_from
