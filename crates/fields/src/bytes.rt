@@ -5,14 +5,14 @@ ghost use Rattle.fields.specs.Bytes.{byte_at, number16, number32};
 pub fn wide(x: u8) -> u64
     ensures { (result ≡ x) × (result < 256) }
 {
-    x as u64
+    u64::from(x)
 }
 
 // The byte at a place; 0 past the end.
 pub fn byte(s: &[u8], at: usize) -> u64
     ensures { (result ≡ byte_at s.now at) × (result < 256) }
 {
-    if at < s.len() { wide(s[at]) } else { 0 }
+    s.get(at).map_or(0, |&x| wide(x))
 }
 
 // The number of two bytes that are there, the first the highest.
@@ -20,7 +20,7 @@ pub fn whole16(s: &[u8], at: usize) -> u64
     requires { at + 2 ≤ length s.now }
     ensures { (result ≡ number16 s.now at) × (result < 65536) }
 {
-    wide(s[at]) * 256 + wide(s[at + 1])
+    u64::from(u16::from_be_bytes([s[at], s[at + 1]]))
 }
 
 // The number of four bytes that are there, the first the highest.
@@ -28,7 +28,7 @@ pub fn whole32(s: &[u8], at: usize) -> u64
     requires { at + 4 ≤ length s.now }
     ensures { (result ≡ number32 s.now at) × (result < 4294967296) }
 {
-    whole16(s, at) * 65536 + whole16(s, at + 2)
+    u64::from(u32::from_be_bytes([s[at], s[at + 1], s[at + 2], s[at + 3]]))
 }
 
 // The number of two bytes, the first the highest; one test where both are there.

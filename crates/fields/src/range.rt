@@ -6,5 +6,5 @@ ghost use Rattle.fields.specs.Ranges.{in_range};
 pub fn in_range(x: u64, low: u64, high: u64) -> bool
     ensures { result ≡ in_range x low high }
 {
-    (low <= x) & (x <= high)
+    (low..=high).contains(&x)
 }
