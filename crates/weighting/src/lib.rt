@@ -1,8 +1,6 @@
 // A number with its margin; the series weight of an element, and the blend by a weight.
 #![tactic(auto)]
 
-use refusal::Refusal;
-
 pub mod weight; // weight.rt: the series weight H of an element
 pub mod blend; // blend.rt: the blend of two estimates by a weight
 
@@ -15,4 +13,3 @@ pub struct Estimate {
     pub value: u64,
     pub margin: u64,
 }
-

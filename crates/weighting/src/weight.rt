@@ -28,10 +28,8 @@ pub fn series_weight(step: u64, lag: u64) -> u64
 {
     let share = step * SHARES / lag;
     let mut h = SCALE;
-    let mut m: u64 = 12;
-    while 0 < m {
+    for m in (1..=12).rev() {
         h = SCALE - quotient(step * h, lag, h * share / SHARES) / m;
-        m -= 1;
     }
     h
 }
