@@ -84,3 +84,19 @@ refused-whole a ns ms {k} part h = go (some_passes ns) (some_passes ms) part h
     go n true p q = refl
     go true false p q = let e = p refl in let z : ◌≡◌ {A = ℕ} 0 1 = cc in absurd (omega arith)
     go false false p q = let z : ◌≡◌ {A = ℕ} 0 1 = cc in absurd (omega arith)
+
+-- what rule 16 refuses it refuses by its own number, so that a part's refusal is passed on as the whole's
+pub number-16 : {A B : Type 0} (a : A) (ns : List ℕ) {k : ℕ} → refused k ≡ under_ceiling ns a → ◌≡◌ {A = Answer B} (refused k) (refused 16)
+unfolding under_ceiling
+number-16 {B = B} a ns {k} h = go (some_passes ns) h
+  where
+    go : (some : Bool) → refused k ≡ cond some (refused 16) (accepted a) → ◌≡◌ {A = Answer B} (refused k) (refused 16)
+    go true q = let n : k ≡ 16 = cc in ap refused n
+    go false q = let z : ◌≡◌ {A = ℕ} 0 1 = cc in absurd (omega arith)
+
+pub refused-part :
+    {A : Type 0} (a : A) (ns ms : List ℕ) {k : ℕ}
+    → (Under ms → Under ns)
+    → refused k ≡ under_ceiling {A = Unit} ns tt
+    → refused k ≡ under_ceiling ms a
+refused-part a ns ms part h = number-16 tt ns h ∙ refused-whole a ns ms part h
