@@ -1,7 +1,7 @@
 -- Serves the code: what a forecast relies on, and what it leaves in lent space.
 use Rattle.refusal.specs.declared.Refusal.{Refusal}
 use Rattle.std.specs.Prelude.{ℕ, ◌+◌, ◌*◌, ◌≤◌, Bool, true, false, List, ◌≡◌, length, take, drop, Result, Ok, Err}
-use Rattle.sizes.specs.Sizes.{answer_numbers}
+use Rattle.sizes.specs.Sizes.{most_elements, answer_numbers, forecast_space}
 use Rattle.refusal.specs.Answers.{accepted, answer_of}
 use Rattle.refusal.specs.declared.Refusal.TheVariants.{AboveCeiling}
 use Rattle.method.specs.declared.Figures.{Figures}
@@ -33,14 +33,14 @@ pub record CopyReady (bytes : List ℕ) (n L T : ℕ) (s : State) (own room lent
   pub space : space_size (table_in bytes) ≤ room
   pub answer : answer_size (table_in bytes) ≤ lent
 
--- the count of numbers where none passes the ceiling, or 16
-unfoldable pub counted_by : Bool → ℕ → Result ℕ Refusal
-counted_by true count = Ok count
-counted_by false count = Err AboveCeiling
+-- the sizes of a space: so many weights, and so many numbers to work in
+pub record SpaceGiven (own room : ℕ) : Type 0 where
+  pub own_most : own ≤ most_elements
+  pub room_most : room ≤ forecast_space
 
--- whether no number passes, and the lent numbers, into which the answer is copied where none does
-abbrev pub Copied : Bool → TableValues → State → List ℕ → List ℕ → Type 0
-Copied under t s before after = Lent (counted_by under (answer_size t)) after (leads_answer t s (length before)) before
+-- the count of numbers, and the lent numbers, into which the answer is copied where no number passes the ceiling
+abbrev pub Copied : Result ℕ Refusal → TableValues → State → List ℕ → List ℕ → Type 0
+Copied r t s before after = Lent r after (leads_answer t s (length before)) before
 
 -- a forecast in lent space, in which the answer begins after the places of what leaves the river: the count, and the answer's numbers
 -- where it is accepted; what the space then holds elsewhere, and what it holds where it is refused, is left open

@@ -10,9 +10,9 @@ ghost use Rattle.element_weights.specs.Weights.{Weighed};
 ghost use Rattle.network.specs.Answer.{leads_answer};
 ghost use Rattle.network.specs.Lent.{Lent};
 ghost use Rattle.answer_space.specs.Places.{Empty};
-ghost use Rattle.leads.specs.Held.{CopyReady, counted_by, Copied, ForecastHeld};
+ghost use Rattle.leads.specs.Held.{SpaceGiven, CopyReady, Copied, ForecastHeld};
 
-use answer_space::{clear, copy_numbers};
+use answer_space::copy_numbers;
 use element_weights::put_weights;
 use network_leads::work_leads;
 use refusal::Refusal;
@@ -31,10 +31,7 @@ fn answer_numbers(elements: usize, leads: usize) -> usize
 fn spare_rows(extra: usize) -> usize
     ensures { (result ≡ min extra 7) × (result ≤ 7) }
 {
-    if extra < 7 {
-        return extra;
-    }
-    7
+    extra.min(7)
 }
 
 // How many numbers of a space are worked in: as many as the answer has, those that take what leaves the river, and rows for tanks.
@@ -46,32 +43,27 @@ fn space_numbers(elements: usize, extra: usize, leads: usize) -> usize
 }
 
 // A forecast from a state that rule 8 accepts, with the weights of the elements and a space lent, in which the answer begins after the places
-// of what leaves the river; what the space holds where the forecast is refused is left open. (It calls itself once, so that the compiler does
-// not put it into the loop of its caller.)
+// of what leaves the river; what the space holds where the forecast is refused is left open.
+#[inline(never)]
 pub fn forecast_in(
     table: &[u8],
     counts: Counts,
     weights: &[u64],
     state: &[u64; STATE_NUMBERS],
     space: &mut [u64],
-    again: bool,
 ) -> Result<usize, Refusal>
     requires { Weighed table.now counts weights.now × ((state_fits (table_in table.now) state.now ≡ true) × (length space.old ≡ forecast_space)) }
     ensures { ForecastHeld result space.new (table_in table.now) state.now }
 {
-    if again {
-        return forecast_in(table, counts, weights, state, space, false);
-    }
-    let needed = answer_numbers(counts.elements, counts.leads);
     let room = space_numbers(counts.elements, counts.extra, counts.leads);
     let part = &mut space[..room];
-    clear(&mut *part);
+    part.fill(0);
     work_leads(table, counts.elements, counts.leads, weights, state, part)?;
-    Ok(needed)
+    Ok(answer_numbers(counts.elements, counts.leads))
 }
 
 // The leads worked out, by weights that are worked out first, in a space that has room for them and nothing in it, and copied out of it where
-// no number passes the ceiling: whether none does.
+// no number passes the ceiling: the count of numbers.
 fn copy_out(
     table: &[u8],
     n: usize,
@@ -81,105 +73,54 @@ fn copy_out(
     own: &mut [u64],
     space: &mut [u64],
     out: &mut [u64],
-) -> bool
+) -> Result<usize, Refusal>
     requires { CopyReady table.now n leads step state.now (length own.old) (length space.old) (length out.old) × Empty space.old }
     ensures { Copied result (table_in table.now) state.now out.old out.new }
 {
     let needed = answer_numbers(n, leads);
     let from = 4 * (leads + 1);
     put_weights(table, step, n, &mut *own);
-    let Ok(()) = work_leads(table, n, leads, &*own, state, &mut *space) else {
-        return false;
-    };
+    work_leads(table, n, leads, &*own, state, &mut *space)?;
     let worked = &space[..];
     copy_numbers(&worked[from..], needed, out);
-    true
+    Ok(needed)
 }
 
-// The same in a space of each size.
-fn in_tiny(
+// The same in a space of its own: E weights, and so many numbers to work in.
+fn in_space<const E: usize, const NUMBERS: usize>(
     table: &[u8],
     n: usize,
     leads: usize,
     step: u64,
     state: &[u64; STATE_NUMBERS],
     out: &mut [u64],
-) -> bool
-    requires { CopyReady table.now n leads step state.now tiny_forecast_elements tiny_forecast_space (length out.old) }
+) -> Result<usize, Refusal>
+    requires { SpaceGiven E NUMBERS × CopyReady table.now n leads step state.now E NUMBERS (length out.old) }
     ensures { Copied result (table_in table.now) state.now out.old out.new }
 {
-    let mut own = [0u64; TINY_FORECAST_ELEMENTS];
-    let mut space = [0u64; TINY_FORECAST_SPACE];
+    let mut own = [0u64; E];
+    let mut space = [0u64; NUMBERS];
     copy_out(table, n, leads, step, state, &mut own, &mut space, out)
 }
 
-fn in_small(
+// In the largest: a call of its own, so that the pages of its frame are not its caller's.
+#[inline(never)]
+fn in_largest_space(
     table: &[u8],
     n: usize,
     leads: usize,
     step: u64,
     state: &[u64; STATE_NUMBERS],
     out: &mut [u64],
-) -> bool
-    requires { CopyReady table.now n leads step state.now small_forecast_elements small_forecast_space (length out.old) }
-    ensures { Copied result (table_in table.now) state.now out.old out.new }
-{
-    let mut own = [0u64; SMALL_FORECAST_ELEMENTS];
-    let mut space = [0u64; SMALL_FORECAST_SPACE];
-    copy_out(table, n, leads, step, state, &mut own, &mut space, out)
-}
-
-fn in_medium(
-    table: &[u8],
-    n: usize,
-    leads: usize,
-    step: u64,
-    state: &[u64; STATE_NUMBERS],
-    out: &mut [u64],
-) -> bool
-    requires { CopyReady table.now n leads step state.now most_elements medium_forecast_space (length out.old) }
-    ensures { Copied result (table_in table.now) state.now out.old out.new }
-{
-    let mut own = [0u64; MOST_ELEMENTS];
-    let mut space = [0u64; MEDIUM_FORECAST_SPACE];
-    copy_out(table, n, leads, step, state, &mut own, &mut space, out)
-}
-
-// (It calls itself once, so that the compiler does not put it, and the pages of its frame, into its caller.)
-fn in_large(
-    table: &[u8],
-    n: usize,
-    leads: usize,
-    step: u64,
-    state: &[u64; STATE_NUMBERS],
-    out: &mut [u64],
-    again: bool,
-) -> bool
+) -> Result<usize, Refusal>
     requires { CopyReady table.now n leads step state.now most_elements forecast_space (length out.old) }
     ensures { Copied result (table_in table.now) state.now out.old out.new }
 {
-    if again {
-        return in_large(table, n, leads, step, state, out, false);
-    }
-    let mut own = [0u64; MOST_ELEMENTS];
-    let mut space = [0u64; FORECAST_SPACE];
-    copy_out(table, n, leads, step, state, &mut own, &mut space, out)
-}
-
-// The count of numbers that were worked out, or 16 where one passes the ceiling.
-fn counted_by(under: bool, count: usize) -> Result<usize, Refusal>
-    ensures { result ≡ counted_by under count }
-{
-    if under {
-        Ok(count)
-    } else {
-        Err(Refusal::AboveCeiling)
-    }
+    in_space::<MOST_ELEMENTS, FORECAST_SPACE>(table, n, leads, step, state, out)
 }
 
 // A forecast from a state that rule 8 accepts, in the smallest space that is large enough: all is worked out before a number is written. (The
-// sizes are handed numbers: a struct would be copied before the first test. The largest is a call, and is handed slices anew: those that this
-// function has would else be put into memory where it begins.)
+// sizes are handed numbers: a struct would be copied before the first test.)
 pub fn forecast_on(
     table: &[u8],
     counts: Counts,
@@ -192,22 +133,18 @@ pub fn forecast_on(
     let n = counts.elements;
     let leads = counts.leads;
     let step = counts.step;
-    let needed = answer_numbers(n, leads);
-    if out.len() < needed {
+    if out.len() < answer_numbers(n, leads) {
         return Err(Refusal::AnswerSpace);
     }
     let room = space_numbers(n, counts.extra, leads);
     if room <= TINY_FORECAST_SPACE {
-        return counted_by(in_tiny(table, n, leads, step, state, out), needed);
+        return in_space::<TINY_FORECAST_ELEMENTS, TINY_FORECAST_SPACE>(table, n, leads, step, state, out);
     }
     if room <= SMALL_FORECAST_SPACE {
-        return counted_by(in_small(table, n, leads, step, state, out), needed);
+        return in_space::<SMALL_FORECAST_ELEMENTS, SMALL_FORECAST_SPACE>(table, n, leads, step, state, out);
     }
     if room <= MEDIUM_FORECAST_SPACE {
-        return counted_by(in_medium(table, n, leads, step, state, out), needed);
+        return in_space::<MOST_ELEMENTS, MEDIUM_FORECAST_SPACE>(table, n, leads, step, state, out);
     }
-    counted_by(
-        in_large(&table[..], n, leads, step, state, &mut out[..], true),
-        needed,
-    )
+    in_largest_space(table, n, leads, step, state, out)
 }

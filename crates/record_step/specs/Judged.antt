@@ -2,7 +2,7 @@
 use Rattle.refusal.specs.declared.Refusal.{Refusal}
 use Prim.{Unit}
 use Rattle.std.specs.Prelude.{ℕ, ◌+◌, ◌*◌, ◌≤◌, true, List, ◌≡◌, length, Result, Ok}
-use Rattle.sizes.specs.Sizes.{state_numbers, step_space}
+use Rattle.sizes.specs.Sizes.{most_elements, most_gauges, state_numbers, step_space}
 use Rattle.refusal.specs.Answers.{Answer, accepted, rule, answer_of}
 use Rattle.units.specs.Ceiling.{under_ceiling}
 use Rattle.table.specs.declared.Counts.{Counts}
@@ -30,6 +30,15 @@ pub record RiverGiven (table : List ℕ) (n extra basins dams : ℕ) (s : State)
   pub basins_all : basins ≡ basin_count (table_in table)
   pub dams_all : dams ≡ dam_count (table_in table)
   pub fits : state_fits (table_in table) s ≡ true
+
+-- a working space for it: so many weights, numbers for what its gauges observe, and numbers to work in
+pub record SpaceGiven (t : TableValues) (n extra own observed room : ℕ) : Type 0 where
+  pub weights : n ≤ own
+  pub gauges : 2 * t.gauges ≤ observed
+  pub places : 4 * (n + extra + 1) ≤ room
+  pub own_most : own ≤ most_elements
+  pub observed_most : observed ≤ 2 * most_gauges
+  pub room_most : room ≤ step_space
 
 -- the same with its counts, and two numbers a gauge for what they observe
 pub record JudgeReady (table : List ℕ) (counts : Counts) (s : State) (observed : List ℕ) : Type 0 where

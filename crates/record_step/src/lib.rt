@@ -2,16 +2,14 @@
 #![tactic(auto)]
 
 ghost use Rattle.std.specs.Prelude.{true, ◌≡◌, ◌+◌, ◌≤◌};
-ghost use Rattle.sizes.specs.Sizes.{small_elements, middle_elements, medium_places};
 ghost use Rattle.table.specs.Bounds.{CountedPlaces};
 ghost use Rattle.table.specs.InUse.{table_in};
 ghost use Rattle.state.specs.Rules.{state_fits};
 ghost use Rattle.state.specs.Answers.{Answered};
 ghost use Rattle.network_step.specs.Held.{Cleared, place_count};
 ghost use Rattle.entries.specs.Entries.{step_on_answer};
-ghost use Rattle.record_step.specs.Judged.{RiverGiven, JudgeReady, StepJudged, RecordGiven, RecordWorked, WriteGiven, LentGiven};
+ghost use Rattle.record_step.specs.Judged.{RiverGiven, JudgeReady, StepJudged, RecordGiven, RecordWorked, SpaceGiven, LentGiven};
 
-use answer_space::clear;
 use element_weights::put_weights;
 use network_step::work_step;
 use next_state::{write_state, write_tanks};
@@ -60,68 +58,26 @@ pub fn work_record(
         return Err(Refusal::AnswerSpace);
     }
     put_weights(table, counts.step, counts.elements, &mut *own);
-    if !work_step(table, basins, &*own, bytes, &*observed, state, &mut *space) {
-        return Err(Refusal::AboveCeiling);
-    }
-    Ok(())
+    work_step(table, basins, &*own, bytes, &*observed, state, &mut *space)
 }
 
-// The state after the step, where it is accepted.
-fn write_accepted(
-    verdict: Result<(), Refusal>,
-    table: &[u8],
-    n: usize,
-    bytes: &[u8],
-    space: &[u64],
-    state: &mut [u64; STATE_NUMBERS],
-) -> Result<(), Refusal>
-    requires { WriteGiven verdict table.now n 0 bytes.now space.now state.old }
-    ensures { Answered result state.new (step_on_answer (table_in table.now) bytes.now state.old) state.old }
-{
-    let Ok(()) = verdict else {
-        return verdict;
-    };
-    write_state(table, n, bytes, space, state);
-    Ok(())
-}
-
-// The same where there may be tanks above the last of their elements, so many.
-fn write_tanked(
-    verdict: Result<(), Refusal>,
+// The whole step in a working space of its own: E weights, so many numbers for what the gauges observe, and so many to work in.
+fn step_in_space<const E: usize, const OBSERVED: usize, const NUMBERS: usize>(
     table: &[u8],
     n: usize,
     extra: usize,
-    bytes: &[u8],
-    space: &[u64],
-    state: &mut [u64; STATE_NUMBERS],
-) -> Result<(), Refusal>
-    requires { WriteGiven verdict table.now n extra bytes.now space.now state.old }
-    ensures { Answered result state.new (step_on_answer (table_in table.now) bytes.now state.old) state.old }
-{
-    let Ok(()) = verdict else {
-        return verdict;
-    };
-    write_tanks(n, extra, space, &mut *state);
-    write_state(table, n, bytes, space, state);
-    Ok(())
-}
-
-// The whole step in the working space of each size; of the smaller ones where there are no tanks.
-fn step_small(
-    table: &[u8],
-    n: usize,
     basins: usize,
     dams: usize,
     bytes: &[u8],
     state: &mut [u64; STATE_NUMBERS],
 ) -> Result<(), Refusal>
-    requires { RiverGiven table.now n 0 basins dams state.old × (n ≤ small_elements) }
+    requires { RiverGiven table.now n extra basins dams state.old × SpaceGiven (table_in table.now) n extra E OBSERVED NUMBERS }
     ensures { Answered result state.new (step_on_answer (table_in table.now) bytes.now state.old) state.old }
 {
-    let mut own = [0u64; SMALL_ELEMENTS];
-    let mut observed = [0u64; SMALL_OBSERVED_NUMBERS];
-    let mut space = [0u64; SMALL_STEP_SPACE];
-    let verdict = work_record(
+    let mut own = [0u64; E];
+    let mut observed = [0u64; OBSERVED];
+    let mut space = [0u64; NUMBERS];
+    work_record(
         table,
         basins,
         dams,
@@ -131,39 +87,15 @@ fn step_small(
         &mut own,
         &mut observed,
         &mut space,
-    );
-    write_accepted(verdict, table, n, bytes, &space, state)
+    )?;
+    write_tanks(n, extra, &space, &mut *state);
+    write_state(table, n, bytes, &space, state);
+    Ok(())
 }
 
-fn step_middle(
-    table: &[u8],
-    n: usize,
-    basins: usize,
-    dams: usize,
-    bytes: &[u8],
-    state: &mut [u64; STATE_NUMBERS],
-) -> Result<(), Refusal>
-    requires { RiverGiven table.now n 0 basins dams state.old × (n ≤ middle_elements) }
-    ensures { Answered result state.new (step_on_answer (table_in table.now) bytes.now state.old) state.old }
-{
-    let mut own = [0u64; MIDDLE_ELEMENTS];
-    let mut observed = [0u64; OBSERVED_NUMBERS];
-    let mut space = [0u64; MIDDLE_STEP_SPACE];
-    let verdict = work_record(
-        table,
-        basins,
-        dams,
-        bytes,
-        &*state,
-        4 * n,
-        &mut own,
-        &mut observed,
-        &mut space,
-    );
-    write_accepted(verdict, table, n, bytes, &space, state)
-}
-
-fn step_medium(
+// In the largest: a call of its own, so that the pages of its frame are not its caller's.
+#[inline(never)]
+fn step_in_largest_space(
     table: &[u8],
     n: usize,
     extra: usize,
@@ -171,63 +103,16 @@ fn step_medium(
     dams: usize,
     bytes: &[u8],
     state: &mut [u64; STATE_NUMBERS],
-) -> Result<(), Refusal>
-    requires { RiverGiven table.now n extra basins dams state.old × (n + extra ≤ medium_places) }
-    ensures { Answered result state.new (step_on_answer (table_in table.now) bytes.now state.old) state.old }
-{
-    let mut own = [0u64; MOST_ELEMENTS];
-    let mut observed = [0u64; OBSERVED_NUMBERS];
-    let mut space = [0u64; MEDIUM_STEP_SPACE];
-    let verdict = work_record(
-        table,
-        basins,
-        dams,
-        bytes,
-        &*state,
-        4 * n,
-        &mut own,
-        &mut observed,
-        &mut space,
-    );
-    write_tanked(verdict, table, n, extra, bytes, &space, state)
-}
-
-// (It calls itself once, so that the compiler does not put it, and the pages of its frame, into its caller.)
-fn step_large(
-    table: &[u8],
-    n: usize,
-    extra: usize,
-    basins: usize,
-    dams: usize,
-    bytes: &[u8],
-    state: &mut [u64; STATE_NUMBERS],
-    again: bool,
 ) -> Result<(), Refusal>
     requires { RiverGiven table.now n extra basins dams state.old }
     ensures { Answered result state.new (step_on_answer (table_in table.now) bytes.now state.old) state.old }
 {
-    if again {
-        return step_large(table, n, extra, basins, dams, bytes, state, false);
-    }
-    let mut own = [0u64; MOST_ELEMENTS];
-    let mut observed = [0u64; OBSERVED_NUMBERS];
-    let mut space = [0u64; STEP_SPACE];
-    let verdict = work_record(
-        table,
-        basins,
-        dams,
-        bytes,
-        &*state,
-        4 * n,
-        &mut own,
-        &mut observed,
-        &mut space,
-    );
-    write_tanked(verdict, table, n, extra, bytes, &space, state)
+    step_in_space::<MOST_ELEMENTS, OBSERVED_NUMBERS, STEP_SPACE>(table, n, extra, basins, dams, bytes, state)
 }
 
-// A step on an accepted table, its counts and the bytes of a record, from a state that rule 8 accepts: rules 9 to 14 and 16 to 18. (The sizes
-// are handed numbers: a struct would be copied before the first test.)
+// A step on an accepted table, its counts and the bytes of a record, from a state that rule 8 accepts: rules 9 to 14 and 16 to 18; in the
+// smallest space that is large enough, the smaller ones where there are no tanks. (The sizes are handed numbers: a struct would be copied
+// before the first test.)
 pub fn step_from(
     table: &[u8],
     counts: Counts,
@@ -243,20 +128,21 @@ pub fn step_from(
     let dams = counts.dams;
     if extra == 0 {
         if n <= SMALL_ELEMENTS {
-            return step_small(table, n, basins, dams, bytes, state);
+            return step_in_space::<SMALL_ELEMENTS, SMALL_OBSERVED_NUMBERS, SMALL_STEP_SPACE>(table, n, 0, basins, dams, bytes, state);
         }
         if n <= MIDDLE_ELEMENTS {
-            return step_middle(table, n, basins, dams, bytes, state);
+            return step_in_space::<MIDDLE_ELEMENTS, OBSERVED_NUMBERS, MIDDLE_STEP_SPACE>(table, n, 0, basins, dams, bytes, state);
         }
     }
     if n + extra <= MEDIUM_PLACES {
-        return step_medium(table, n, extra, basins, dams, bytes, state);
+        return step_in_space::<MOST_ELEMENTS, OBSERVED_NUMBERS, MEDIUM_STEP_SPACE>(table, n, extra, basins, dams, bytes, state);
     }
-    step_large(&table[..], n, extra, basins, dams, &bytes[..], state, true)
+    step_in_largest_space(table, n, extra, basins, dams, bytes, state)
 }
 
 // The same with the weights of the elements and a working space lent.
-fn step_in(
+#[inline(never)]
+pub fn step_lent(
     table: &[u8],
     counts: Counts,
     weights: &[u64],
@@ -273,8 +159,8 @@ fn step_in(
     judge_step(table, counts, bytes, &*state, &mut observed)?;
     let room = 4 * (n + extra + 1);
     let part = &mut space[..room];
-    clear(&mut *part);
-    if !work_step(
+    part.fill(0);
+    work_step(
         table,
         counts.basins,
         weights,
@@ -282,29 +168,8 @@ fn step_in(
         &observed,
         &*state,
         &mut *part,
-    ) {
-        return Err(Refusal::AboveCeiling);
-    }
+    )?;
     write_tanks(n, extra, &*part, &mut *state);
     write_state(table, n, bytes, &*part, state);
     Ok(())
-}
-
-// The same as a function that calls itself once, so that the compiler does not put it into the loop of its caller.
-pub fn step_lent(
-    table: &[u8],
-    counts: Counts,
-    weights: &[u64],
-    bytes: &[u8],
-    space: &mut [u64],
-    state: &mut [u64; STATE_NUMBERS],
-    again: bool,
-) -> Result<(), Refusal>
-    requires { LentGiven table.now counts weights.now space.old state.old }
-    ensures { Answered result state.new (step_on_answer (table_in table.now) bytes.now state.old) state.old }
-{
-    if again {
-        return step_lent(table, counts, weights, bytes, space, state, false);
-    }
-    step_in(table, counts, weights, bytes, space, state)
 }
