@@ -1,7 +1,8 @@
 -- Serves the code: what the walk of a forecast relies on, and what it has worked out in its space: element number k at lead l at place
 -- k * (leads + 1) + l.
 use Prim.{Unit}
-use Rattle.std.specs.Prelude.{ℕ, suc, ◌+◌, ◌*◌, ◌≤◌, ◌<◌, min, List, ◌≡◌, length, Result, Ok, Err}
+use Rattle.std.specs.Prelude.{ℕ, suc, ◌+◌, ◌*◌, ◌≤◌, ◌<◌, min, List, ◌≡◌, length, Result, Ok, Err, Option, Some, None}
+use Rattle.refusal.specs.Refusals.{number}
 use Rattle.refusal.specs.Answers.{refused, answer_of}
 use Rattle.refusal.specs.declared.Refusal.{Refusal}
 use Rattle.units.specs.Units.{S}
@@ -20,8 +21,6 @@ use Rattle.network.specs.Forecast.{forecast_own, lead_figures, lead_numbers}
 use Rattle.answer_space.specs.Places.{figures_at, Empty}
 use Rattle.lead_walk.specs.Network.{Walked}
 use Rattle.tank_walk.specs.Rows.{resting, IsLast, own_row}
-use Rattle.network_leads.specs.declared.RunEnd.{RunEnd}
-use Rattle.network_leads.specs.declared.RunEnd.TheVariants.{Done, Above, Tanks}
 
 -- N and L of an accepted table, the weights of its elements, and a state that rule 8 accepts
 pub record Given (bytes : List ℕ) (n L : ℕ) (weight : List ℕ) (s : State) : Type 0 where
@@ -78,16 +77,20 @@ pub record TanksNext (t : TableValues) (s : State) (leads from i : ℕ) (space :
   pub single : extra_before t i ≡ extra_before t from
   pub held : LeadsSoFar t s leads i i space
 
--- how a run over the elements from one on ends: all are worked out; some number passes; or before one of tanks
-pub record RunWorked (r : RunEnd) (t : TableValues) (s : State) (leads from : ℕ) (space : List ℕ) : Type 0 where
-  pub done : r ≡ Done → LeadsSoFar t s leads t.elements t.elements space
-  pub above : r ≡ Above → refused 16 ≡ under_ceiling {A = Unit} (lead_numbers t s leads) tt
-  pub next : (i : ℕ) → r ≡ Tanks i → TanksNext t s leads from i space
+-- some number of the leads passes, and this is its refusal
+abbrev pub LeadsPass : Refusal → TableValues → State → ℕ → Type 0
+LeadsPass r t s leads = refused (number r) ≡ under_ceiling {A = Unit} (lead_numbers t s leads) tt
+
+-- how a run over the elements from one on ends: all are worked out; before one of tanks; or some number passes
+unfoldable pub RunWorked : Result (Option ℕ) Refusal → TableValues → State → ℕ → ℕ → List ℕ → Type 0
+RunWorked (Ok None) t s leads from space = LeadsSoFar t s leads t.elements t.elements space
+RunWorked (Ok (Some i)) t s leads from space = TanksNext t s leads from i space
+RunWorked (Err r) t s leads from space = LeadsPass r t s leads
 
 -- an element of tanks is worked out, or some number passes
 pub record TanksDone (r : Result Unit Refusal) (t : TableValues) (s : State) (leads i : ℕ) (space : List ℕ) : Type 0 where
   pub done : r ≡ (Ok tt) → LeadsSoFar t s leads (i + 1) (i + 1) space
-  pub above : (k : Refusal) → r ≡ Err k → refused 16 ≡ under_ceiling {A = Unit} (lead_numbers t s leads) tt
+  pub above : (k : Refusal) → r ≡ Err k → LeadsPass k t s leads
 
 -- the figures of each element, which are those of its last cell, at each lead stand at their places
 pub record LeadsHeld (space : List ℕ) (t : TableValues) (s : State) : Type 0 where

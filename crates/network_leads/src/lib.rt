@@ -64,15 +64,8 @@ fn lead_input(
     }
 }
 
-// How a run over elements ends: after the last; with a number above the ceiling; or before an element of tanks.
-#[derive(Clone, Copy)]
-enum RunEnd {
-    Done,
-    Above,
-    Tanks(usize),
-}
-
-// The elements from one on, each through all leads by its weight, up to the next element of tanks. (These are worked out apart, so that the
+// The elements from one on, each through all leads by its weight, up to the next element of tanks, which it answers; none
+// where all are worked out; 16 where a number passes the ceiling. (These are worked out apart, so that the
 // loop has no more calls.)
 fn work_run(
     table: &[u8],
@@ -82,7 +75,7 @@ fn work_run(
     weights: &[u64],
     state: &[u64; STATE_NUMBERS],
     space: &mut [u64],
-) -> RunEnd
+) -> Result<Option<usize>, Refusal>
     requires { Given table.now n leads weights.now state.now × RunReady (table_in table.now) state.now leads from space.old }
     ensures { RunWorked result (table_in table.now) state.now leads from space.new }
 {
@@ -91,7 +84,7 @@ fn work_run(
     let count = rain_count(steps);
     for i in from..n {
         if kind_at(table, i) == elements::TANKS {
-            return RunEnd::Tanks(i);
+            return Ok(Some(i));
         }
         let first = figures_of(state, i);
         let own = (i + 1) * width;
@@ -100,15 +93,13 @@ fn work_run(
         let input = lead_input(table, i, kind_at(table, i), weights, count, state);
         let element = input.element;
         let below = element.down * width + 1;
-        let Ok(()) = work_element(input, first, here, below, leads, &mut *space) else {
-            return RunEnd::Above;
-        };
+        work_element(input, first, here, below, leads, &mut *space)?;
     }
-    RunEnd::Done
+    Ok(None)
 }
 
-// Element i of n, one of tanks, through all leads; the tanks above its last stand in the state from place x on. (It calls itself once, so that
-// the compiler does not put it into the loop of its caller.)
+// Element i of n, one of tanks, through all leads; the tanks above its last stand in the state from place x on.
+#[inline(never)]
 fn work_tanks(
     table: &[u8],
     n: usize,
@@ -118,14 +109,10 @@ fn work_tanks(
     weight: u64,
     state: &[u64; STATE_NUMBERS],
     space: &mut [u64],
-    again: bool,
 ) -> Result<(), Refusal>
     requires { TanksReady table.now n i x leads weight state.now space.old }
     ensures { TanksDone result (table_in table.now) state.now leads i space.new }
 {
-    if again {
-        return work_tanks(table, n, i, x, leads, weight, state, space, false);
-    }
     let width = leads + 1;
     let own = (i + 1) * width;
     let last = figures_of(state, i);
@@ -168,29 +155,11 @@ pub fn work_leads(
     let mut from: usize = 0;
     let mut x = n;
     loop {
-        let end = work_run(table, n, from, leads, weights, state, &mut *space);
-        match end {
-            RunEnd::Done => {
-                return Ok(());
-            }
-            RunEnd::Above => {
-                return Err(Refusal::AboveCeiling);
-            }
-            RunEnd::Tanks(i) => {
-                work_tanks(
-                    &table[..],
-                    n,
-                    i,
-                    x,
-                    leads,
-                    weights[i],
-                    state,
-                    &mut space[..],
-                    true,
-                )?;
-                x += extra_at(table, i);
-                from = i + 1;
-            }
-        }
+        let Some(i) = work_run(table, n, from, leads, weights, state, &mut *space)? else {
+            return Ok(());
+        };
+        work_tanks(table, n, i, x, leads, weights[i], state, &mut *space)?;
+        x += extra_at(table, i);
+        from = i + 1;
     }
 }

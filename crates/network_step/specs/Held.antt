@@ -1,10 +1,10 @@
 -- Serves the code: what the code of a step relies on, holds and has worked out.
 use Prim.{Unit}
-use Rattle.std.specs.Prelude.{ℕ, zero, suc, ◌+◌, ◌*◌, ◌≤◌, ◌<◌, Bool, true, false, List, ◌≡◌, length, Result, Ok, Err}
+use Rattle.std.specs.Prelude.{ℕ, zero, suc, ◌+◌, ◌*◌, ◌≤◌, ◌<◌, Bool, true, false, List, ◌≡◌, length, Result, Ok, Err, Option, Some, None}
 use Rattle.sizes.specs.Sizes.{most_elements, most_places, most_gauges}
+use Rattle.refusal.specs.Refusals.{number}
 use Rattle.refusal.specs.Answers.{accepted, answer_of}
 use Rattle.refusal.specs.declared.Refusal.{Refusal}
-use Rattle.refusal.specs.declared.Refusal.TheVariants.{AboveCeiling}
 use Rattle.units.specs.Ceiling.{under_ceiling}
 use Rattle.method.specs.declared.Figures.{Figures}
 use Rattle.method.specs.Figures.{FiguresFit}
@@ -30,8 +30,6 @@ use Rattle.tank_walk.specs.Rows.{resting, EveryCell, cell_row}
 use Rattle.next_state.specs.Written.{FiguresHeld}
 use Rattle.network_step.specs.declared.Passed.{Passed}
 use Rattle.network_step.specs.declared.Reached.{Reached}
-use Rattle.network_step.specs.declared.RunEnd.{RunEnd}
-use Rattle.network_step.specs.declared.RunEnd.TheVariants.{Done, Above, Tanks}
 
 -- an accepted table with so many basins and weights of its elements, an accepted record with what its gauges observed, two numbers a
 -- gauge, and a state that rule 8 accepts
@@ -73,9 +71,9 @@ module _ (t : TableValues) (bytes : List ℕ) (s : State) where
       Walked (cells t) (λ l. step_own (cells t) (input_at (cells t) bytes)) (observed_in (input_at (cells t) bytes)) figures_by 1 0 EveryCell (cell_row t)
       (resting t) 1 (first_cell t i) space
 
-  -- some number of the step passes the ceiling
-  abbrev pub StepPasses : Type 0
-  StepPasses = answer_of (Err AboveCeiling) ≡ under_ceiling (step_numbers t (input_at (cells t) bytes) s) tt
+  -- some number of the step passes the ceiling, and this is its refusal
+  abbrev pub StepPasses : Refusal → Type 0
+  StepPasses r = refused (number r) ≡ under_ceiling {A = Unit} (step_numbers t (input_at (cells t) bytes) s) tt
 
 -- the basins and dams that a step has come past before element i
 pub record PassedBefore (t : TableValues) (i : ℕ) (passed : Passed) : Type 0 where
@@ -107,15 +105,10 @@ pub record TanksMet (t : TableValues) (bytes : List ℕ) (s : State) (from met :
   pub reached : ReachedIn t bytes s met space
 
 -- how it ends
-unfoldable pub RunEnded : RunEnd → TableValues → List ℕ → State → Reached → List ℕ → Type 0
-RunEnded Done t bytes s from space = Stepping t bytes s t.elements space
-RunEnded Above t bytes s from space = StepPasses t bytes s
-RunEnded (Tanks met) t bytes s from space = TanksMet t bytes s from met space
-
-unfoldable pub is_done : RunEnd → Bool
-is_done Done = true
-is_done Above = false
-is_done (Tanks met) = false
+unfoldable pub RunEnded : Result (Option Reached) Refusal → TableValues → List ℕ → State → Reached → List ℕ → Type 0
+RunEnded (Ok None) t bytes s from space = Stepping t bytes s t.elements space
+RunEnded (Ok (Some met)) t bytes s from space = TanksMet t bytes s from met space
+RunEnded (Err r) t bytes s from space = StepPasses t bytes s r
 
 -- the turn of an element of tanks, in a step by this record
 pub record TanksTurn
@@ -134,7 +127,7 @@ pub record TanksReady (table : List ℕ) (n m : ℕ) (met : Reached) (weight obs
 -- element i is worked out, or some number passes
 pub record ElementStepped (r : Result Unit Refusal) (t : TableValues) (bytes : List ℕ) (s : State) (i : ℕ) (after : List ℕ) : Type 0 where
   pub done : r ≡ (Ok tt) → Stepping t bytes s (i + 1) after
-  pub passes : (k : Refusal) → r ≡ Err k → StepPasses t bytes s
+  pub passes : (k : Refusal) → r ≡ Err k → StepPasses t bytes s k
 
 -- so by every record of which it is the turn
 pub record TanksTurned
@@ -162,12 +155,7 @@ pub record PastReady (table : List ℕ) (n m : ℕ) (met : Reached) : Type 0 whe
   pub tank_few : met.tank ≤ most_places
   pub gauges_few : met.gauges ≤ most_gauges
 
--- whether no number passes the ceiling, as a verdict
-unfoldable pub under_verdict : Bool → Result Unit Refusal
-under_verdict true = (Ok tt)
-under_verdict false = Err AboveCeiling
-
 -- the step is worked out where no number passes
-pub record StepWorked (under : Bool) (space : List ℕ) (t : TableValues) (bytes : List ℕ) (s : State) : Type 0 where
-  pub decided : answer_of (under_verdict under) ≡ under_ceiling (step_numbers t (input_at (cells t) bytes) s) tt
-  pub held : under ≡ true → FiguresHeld space t bytes s
+pub record StepWorked (r : Result Unit Refusal) (space : List ℕ) (t : TableValues) (bytes : List ℕ) (s : State) : Type 0 where
+  pub decided : answer_of r ≡ under_ceiling (step_numbers t (input_at (cells t) bytes) s) tt
+  pub held : r ≡ Ok tt → FiguresHeld space t bytes s

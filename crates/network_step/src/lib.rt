@@ -8,7 +8,7 @@ ghost use Rattle.table.specs.InUse.{table_in};
 ghost use Rattle.state.specs.States.{figures_of};
 ghost use Rattle.answer_space.specs.Places.{added};
 ghost use Rattle.network_step.specs.Inputs.{input_of, step_input, StepInputReady};
-ghost use Rattle.network_step.specs.Held.{StepReady, place_count, Cleared, OldReady, RunReady, RunEnded, is_done, TanksReady, TanksTurned, PastReady, past_tanks, StepWorked};
+ghost use Rattle.network_step.specs.Held.{StepReady, place_count, Cleared, OldReady, RunReady, RunEnded, TanksReady, TanksTurned, PastReady, past_tanks, StepWorked};
 
 use rating::RatedReading;
 use answer_space::add_figures;
@@ -139,26 +139,8 @@ fn begun(n: usize) -> Reached
     reached_at(0, n, none, 0)
 }
 
-// How a run over elements ends: after the last; with a number above the ceiling; or before an element of tanks.
-#[derive(Clone, Copy)]
-enum RunEnd {
-    Done,
-    Above,
-    Tanks(Reached),
-}
-
-// Whether it ends after the last.
-fn run_done(end: RunEnd) -> bool
-    ensures { result ≡ is_done end }
-{
-    match end {
-        RunEnd::Done => true,
-        RunEnd::Above => false,
-        RunEnd::Tanks(_) => false,
-    }
-}
-
-// The elements from one on up to the next one of tanks, each as one lead, of number 0. (Elements of tanks are worked out apart, so that there
+// The elements from one on up to the next one of tanks, each as one lead, of number 0: how far the step has then come, where one of tanks is
+// next; none where all are worked out; 16 where a number passes the ceiling. (Elements of tanks are worked out apart, so that there
 // is no call in the loop. The table's counts are handed over, and `one_lead::work_step` is called here: either takes fewer instructions. An
 // element's old figures are added before it is worked out, and read again then: kept until its new figures are there, they would take more.)
 fn work_run(
@@ -172,7 +154,7 @@ fn work_run(
     observed: &[u64],
     state: &[u64; STATE_NUMBERS],
     space: &mut [u64],
-) -> RunEnd
+) -> Result<Option<Reached>, Refusal>
     requires { RunReady table.now n m basins from weights.now bytes.now observed.now state.now space.old }
     ensures { RunEnded result (table_in table.now) bytes.now state.now from space.new }
 {
@@ -183,21 +165,18 @@ fn work_run(
         let here = gauge_here(table, n, m, g, i);
         let observation = observation_here(observed, here, g);
         if kind_at(table, i) == elements::TANKS {
-            return RunEnd::Tanks(reached_at(i, from.tank, passed, g));
+            return Ok(Some(reached_at(i, from.tank, passed, g)));
         }
         add_old_outflow(table, i, state, &mut *space);
         let taken = step_input(table, i, weights[i], bytes, basins, passed, observation);
         let input = taken.input;
         let element = input.element;
         let before = figures_of(state, i);
-        let worked = one_lead::work_step(input, i + 1, element.down, before, &mut *space);
-        let Ok(_) = worked else {
-            return RunEnd::Above;
-        };
+        one_lead::work_step(input, i + 1, element.down, before, &mut *space)?;
         passed = taken.passed;
         g += here;
     }
-    RunEnd::Done
+    Ok(None)
 }
 
 // The element of tanks that a step has come to: its tanks one after the other, the last corrected by what its gauge observed. 16 where a
@@ -228,8 +207,7 @@ fn work_tanks(
         width: 1,
         leads: 1,
     };
-    let opened = open_tanks(noise, weight, extra, x, places, state, &mut *space);
-    opened?;
+    open_tanks(noise, weight, extra, x, places, state, &mut *space)?;
     let last = figures_of(state, i);
     let below = down_at(table, i);
     store_tank(noise, weight, observation, last, i + 1, below, 1, space)
@@ -247,9 +225,8 @@ fn past_tanks(table: &[u8], n: usize, m: usize, met: Reached) -> Reached
     reached_at(i + 1, met.tank + extra_at(table, i), passed, g + here)
 }
 
-// All elements, one after the other, runs of those that are one cell and between them those of tanks: whether no number passes the ceiling; then
-// the new figures of all cells stand in the working space. (The table's counts are read where they stand: a struct is handed over through
-// memory.)
+// All elements, one after the other, runs of those that are one cell and between them those of tanks; then the new figures of all cells stand
+// in the working space; or 16. (The table's counts are read where they stand: a struct is handed over through memory.)
 pub fn work_step(
     table: &[u8],
     basins: usize,
@@ -258,7 +235,7 @@ pub fn work_step(
     observed: &[u64],
     state: &[u64; STATE_NUMBERS],
     space: &mut [u64],
-) -> bool
+) -> Result<(), Refusal>
     requires { StepReady table.now basins weights.now bytes.now observed.now state.now × Cleared (place_count (table_in table.now)) space.old }
     ensures { StepWorked result space.new (table_in table.now) bytes.now state.now }
 {
@@ -267,7 +244,7 @@ pub fn work_step(
     let m = counts.gauges;
     let mut from = begun(n);
     loop {
-        let end = work_run(
+        let run = work_run(
             table,
             n,
             m,
@@ -278,14 +255,11 @@ pub fn work_step(
             observed,
             state,
             &mut *space,
-        );
-        let RunEnd::Tanks(met) = end else {
-            return run_done(end);
+        )?;
+        let Some(met) = run else {
+            return Ok(());
         };
-        let worked = work_tanks(table, n, m, met, weights, observed, state, &mut *space);
-        let Ok(()) = worked else {
-            return false;
-        };
+        work_tanks(table, n, m, met, weights, observed, state, &mut *space)?;
         from = past_tanks(table, n, m, met);
     }
 }

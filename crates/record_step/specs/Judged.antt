@@ -2,7 +2,7 @@
 use Rattle.refusal.specs.declared.Refusal.{Refusal}
 use Prim.{Unit}
 use Rattle.std.specs.Prelude.{ℕ, ◌+◌, ◌*◌, ◌≤◌, true, List, ◌≡◌, length, Result, Ok}
-use Rattle.sizes.specs.Sizes.{most_elements, most_gauges, state_numbers, step_space}
+use Rattle.sizes.specs.Sizes.{most_elements, state_numbers, observed_numbers, step_space}
 use Rattle.refusal.specs.Answers.{Answer, accepted, rule, answer_of}
 use Rattle.units.specs.Ceiling.{under_ceiling}
 use Rattle.table.specs.declared.Counts.{Counts}
@@ -37,7 +37,7 @@ pub record SpaceGiven (t : TableValues) (n extra own observed room : ℕ) : Type
   pub gauges : 2 * t.gauges ≤ observed
   pub places : 4 * (n + extra + 1) ≤ room
   pub own_most : own ≤ most_elements
-  pub observed_most : observed ≤ 2 * most_gauges
+  pub observed_most : observed ≤ observed_numbers
   pub room_most : room ≤ step_space
 
 -- the same with its counts, and two numbers a gauge for what they observe

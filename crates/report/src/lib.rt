@@ -27,7 +27,7 @@ fn answer_forecast(
     requires { RecordReady table.now counts weights.now state.now space.old fours.now out.old at }
     ensures { TextAnsweredOf result out.old at out.new (forecast_printed (table_in table.now) state.now (forecast_on_answer (table_in table.now) state.now answer_numbers)) }
 {
-    let answer = leads::forecast_in(table, counts, weights, state, &mut *space, true);
+    let answer = leads::forecast_in(table, counts, weights, state, &mut *space);
     let steps = state[1];
     let elements = counts.elements;
     let leads = counts.leads + 1;
@@ -65,16 +65,15 @@ pub fn answer_record(
     requires { RecordReady table.now counts weights.now state.old space.old fours.now out.old at }
     ensures { Reported result out.old at out.new state.new (record_on_printed (table_in table.now) bytes.now state.old) }
 {
-    let verdict = record_step::step_lent(
+    let answer = record_step::step_lent(
         table,
         counts,
         weights,
         bytes,
         &mut *space,
         &mut *state,
-        true,
     );
-    match verdict {
+    match answer {
         Ok(()) => answer_forecast(
             table,
             counts,

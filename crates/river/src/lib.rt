@@ -3,8 +3,7 @@
 #![tactic(auto)]
 
 ghost use Rattle.std.specs.Prelude.{◌≡◌, length};
-ghost use Rattle.refusal.specs.Answers.{answer_of};
-ghost use Rattle.refusal.specs.Answers.{accepted};
+ghost use Rattle.refusal.specs.Answers.{accepted, answer_of};
 ghost use Rattle.table.specs.InUse.{table_in};
 ghost use Rattle.table.specs.Rules.{table_rules};
 ghost use Rattle.rating.specs.Looks.{look_of};
@@ -15,8 +14,9 @@ ghost use Rattle.display.specs.Display.{show_answer};
 ghost use Rattle.river.specs.Held.{CountsSmall, PlanAsked};
 ghost use Rattle.river.specs.Replies.{version, refusal_of, no_plan, plan_reply, written_reply, rating_reply, display_reply, StateReplied, ForecastReplied};
 
+use display::Shown;
+use rating::CurveLook;
 use refusal::Refusal;
-use rating::RatingAnswer;
 use sizes::STATE_NUMBERS;
 use table::Counts;
 
@@ -65,68 +65,66 @@ pub struct Display {
     pub margin: f64,
 }
 
-fn refusal_of(verdict: Result<(), Refusal>) -> u64
-    ensures { result ≡ refusal_of (answer_of verdict) }
+// 0, or the number for no.
+fn refusal_of(answer: Result<(), Refusal>) -> u64
+    ensures { result ≡ refusal_of (answer_of answer) }
 {
-    match verdict {
+    match answer {
         Ok(()) => 0,
         Err(refusal) => refusal.code(),
     }
 }
 
-fn written_reply(answer: Result<usize, Refusal>) -> Written
-    ensures { result ≡ written_reply (answer_of answer) }
-{
-    match answer {
-        Ok(count) => Written { refusal: 0, count },
-        Err(refusal) => {
-            let number = refusal.code();
-            Written {
-                refusal: number,
+impl From<Result<usize, Refusal>> for Written {
+    ghost from_gives = { λ answer written. written ≡ written_reply (answer_of answer) };
+
+    fn from(answer: Result<usize, Refusal>) -> Self {
+        match answer {
+            Ok(count) => Written { refusal: 0, count },
+            Err(refusal) => Written {
+                refusal: refusal.code(),
                 count: 0,
-            }
+            },
         }
     }
 }
 
-fn rating_reply(answer: RatingAnswer) -> Rating
-    ensures { result ≡ rating_reply (look_of answer) }
-{
-    match answer {
-        RatingAnswer::Accepted(z, noise, pieces) => Rating {
-            refusal: 0,
-            discharge: z.0,
-            noise: noise.0,
-            pieces,
-        },
-        RatingAnswer::Refused(refusal, pieces) => {
-            let number = refusal.code();
-            Rating {
-                refusal: number,
+impl From<CurveLook> for Rating {
+    ghost from_gives = { λ look rating. rating ≡ rating_reply (look_of look) };
+
+    fn from(look: CurveLook) -> Self {
+        match look.rated {
+            Ok(rated) => Rating {
+                refusal: 0,
+                discharge: rated.discharge.0,
+                noise: rated.noise.0,
+                pieces: look.pieces,
+            },
+            Err(refusal) => Rating {
+                refusal: refusal.code(),
                 discharge: 0,
                 noise: 0,
-                pieces,
-            }
+                pieces: look.pieces,
+            },
         }
     }
 }
 
-fn display_reply(answer: Result<Shown, Refusal>) -> Display
-    ensures { result ≡ display_reply (answer_of answer) }
-{
-    match answer {
-        Ok(shown) => Display {
-            refusal: 0,
-            discharge: shown.discharge,
-            margin: shown.margin,
-        },
-        Err(refusal) => {
-            let number = refusal.code();
-            Display {
-                refusal: number,
+impl From<Result<Shown, Refusal>> for Display {
+    ghost from_gives = { λ answer display. display ≡ display_reply (answer_of answer) };
+
+    fn from(answer: Result<Shown, Refusal>) -> Self {
+        match answer {
+            Ok(shown) => Display {
+                refusal: 0,
+                discharge: shown.discharge,
+                margin: shown.margin,
+            },
+            Err(refusal) => Display {
+                refusal: refusal.code(),
                 discharge: 0.0,
                 margin: 0.0,
-            }
+            },
         }
     }
 }
@@ -186,10 +184,8 @@ pub fn river_version() -> u64
 pub fn river_check(table: &[u8]) -> TablePlan
     ensures { result ≡ plan_reply (table_rules table.now (accepted (table_in table.now))) }
 {
-    let read = table_reader::read(table);
-    let verdict = read.verdict;
-    match verdict {
-        Ok(()) => plan_of(read.counts),
+    match table_reader::read(table) {
+        Ok(counts) => plan_of(counts),
         Err(refusal) => no_plan(refusal.code()),
     }
 }
@@ -198,24 +194,21 @@ pub fn river_check(table: &[u8]) -> TablePlan
 pub fn river_start(table: &[u8], state: &mut [u64; STATE_NUMBERS]) -> u64
     ensures { StateReplied result state.new (start_answer table.now state.old) state.old }
 {
-    let verdict = engine::start(table, state);
-    refusal_of(verdict)
+    refusal_of(engine::start(table, state))
 }
 
 // A step on the bytes of a table and of a record.
 pub fn river_step(table: &[u8], bytes: &[u8], state: &mut [u64; STATE_NUMBERS]) -> u64
     ensures { StateReplied result state.new (step_answer table.now bytes.now state.old) state.old }
 {
-    let verdict = engine::step(table, bytes, state);
-    refusal_of(verdict)
+    refusal_of(engine::step(table, bytes, state))
 }
 
 // A forecast on the bytes of a table into lent space.
 pub fn river_forecast(table: &[u8], state: &[u64; STATE_NUMBERS], out: &mut [u64]) -> Written
     ensures { ForecastReplied result out.new (forecast_answer table.now state.now (length out.old)) out.old }
 {
-    let answer = engine::forecast(table, state, &mut *out);
-    written_reply(answer)
+    Written::from(engine::forecast(table, state, out))
 }
 
 // A trial of a step on the bytes of a table and of a record, into lent space.
@@ -227,22 +220,19 @@ pub fn river_trial(
 ) -> Written
     ensures { ForecastReplied result out.new (trial_answer table.now bytes.now state.now (length out.old)) out.old }
 {
-    let answer = trial::trial(table, bytes, state, &mut *out);
-    written_reply(answer)
+    Written::from(trial::trial(table, bytes, state, out))
 }
 
 // A stage on the curve of a gauge, counted from 1, on the bytes of a table.
 pub fn river_rate(table: &[u8], gauge: usize, stage: u64) -> Rating
     ensures { result ≡ rating_reply (rating_answer table.now gauge stage) }
 {
-    let answer = gauge_look::rate(table, gauge, stage);
-    rating_reply(answer)
+    Rating::from(gauge_look::rate(table, gauge, stage))
 }
 
 // A discharge and its margin, in grains, as floats in m³/s for a display.
 pub fn river_show(discharge: u64, margin: u64) -> Display
     ensures { result ≡ display_reply (show_answer discharge margin) }
 {
-    let answer = display::show(discharge, margin);
-    display_reply(answer)
+    Display::from(display::show(discharge, margin))
 }
