@@ -1,18 +1,13 @@
--- Figures under the ceiling: as estimates, of an answer, and made of numbers that were judged.
+-- Figures under the ceiling: as estimates, of an answer, as numbers.
 use Rattle.refusal.specs.declared.Refusal.{Refusal}
 use Rattle.std.specs.Prelude.{Result, Ok}
-use Prim.Native.Nat.{◌≤◌}
 use mathlib.Core.Path.{◌≡◌, subst}
 use borrow.Author.Tests.{le-ltb}
-use Rattle.units.specs.declared.Discharge.{Discharge}
-use Rattle.units.specs.declared.Variance.{Variance}
-use Rattle.units.specs.Units.{C, grains, thousandths}
 use Rattle.units.specs.Ceiling.{some_passes}
 use Rattle.units.proofs.UnderLaws.{Under, first_under}
-use Rattle.weighting.specs.declared.Estimate.{Estimate}
 use Rattle.weighting.specs.Estimates.{EstimateFits}
 use Rattle.method.specs.declared.Figures.{Figures}
-use Rattle.method.specs.Figures.{discharge, variance, figures, figure_numbers, FiguresFit, AnsweredFiguresFit}
+use Rattle.method.specs.Figures.{discharge, variance, figure_numbers, FiguresFit, AnsweredFiguresFit}
 
 pub discharge-fits : {f : Figures} → FiguresFit f → EstimateFits (discharge f)
 discharge-fits h = record { value = h.discharge; margin = h.discharge_margin }
@@ -37,15 +32,3 @@ under-figures f u =
     let v = first_under _ _ e.1 in
     let d = first_under _ _ v.1 in
     record { discharge = q.0; discharge_margin = e.0; variance = v.0; variance_margin = d.0 }
-
-module _
-    (q v : Estimate) {d dm : Discharge} {x xm : Variance} (value : (q.value ≤ C) × (d ≡ grains q.value))
-    (margin : (q.margin ≤ C) × (dm ≡ grains q.margin)) (spread : (v.value ≤ C) × (x ≡ thousandths v.value))
-    (spread-margin : (v.margin ≤ C) × (xm ≡ thousandths v.margin)) where
-  pub figures-made : record { discharge = d; discharge_margin = dm; variance = x; variance_margin = xm } ≡ figures q v
-  figures-made = rw (value.1, margin.1, spread.1, spread-margin.1)
-
-  pub figures-fit : FiguresFit (record { discharge = d; discharge_margin = dm; variance = x; variance_margin = xm })
-  figures-fit =
-      rw (value.1, margin.1, spread.1, spread-margin.1)
-      (record { discharge = value.0; discharge_margin = margin.0; variance = spread.0; variance_margin = spread-margin.0 })

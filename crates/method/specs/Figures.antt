@@ -2,8 +2,6 @@
 use Rattle.refusal.specs.declared.Refusal.{Refusal}
 use Prim.{Unit}
 use Rattle.std.specs.Prelude.{ℕ, ◌≤◌, List, [], ◌∷◌, Result, Ok, Err}
-use Rattle.refusal.specs.Refusals.{number}
-use Rattle.refusal.specs.Answers.{Answer, accepted, refused, answer_of}
 use Rattle.units.specs.Units.{C, grains, thousandths}
 use Rattle.weighting.specs.declared.Estimate.{Estimate}
 use Rattle.weighting.specs.Estimates.{estimate}

@@ -22,6 +22,7 @@ pub struct Figures {
 
 impl Figures {
     // The figures of a discharge and a variance, or the refusal of a number that passes the ceiling.
+    #[tactic(auto, unfolding(crate::specs::Inflow::inflow_answer, crate::specs::Inflow::inflow_numbers, crate::specs::Figures::AnsweredFiguresFit, units::specs::Ceiling::under_ceiling, units::specs::Ceiling::some_passes))]
     pub fn new(q: Estimate, v: Estimate) -> Result<Figures, Refusal>
         ensures { (answer_of result ≡ inflow_answer (figures q v)) × AnsweredFiguresFit result }
     {

@@ -2,12 +2,12 @@
 use Prim.Native.Nat.{ℕ, ◌≤◌, ◌<◌}
 use mathlib.Core.Bool.{Bool, true, false, cond, ◌||◌}
 use mathlib.Core.List.{List, [], ◌∷◌, ◌++◌}
-use mathlib.Core.Path.{◌≡◌, refl, ap, ◌∙◌}
+use mathlib.Core.Path.{◌≡◌, refl, sym, ap, ◌∙◌}
 use borrow.Author.Tests.{lt-ltb, le-ltb}
 use lib.Dec.{ltb}
 use native.Mathlib.Decide.{dec_le}
 use native.Mathlib.Omega.{arith}
-use Rattle.refusal.specs.Answers.{accepted, refused}
+use Rattle.refusal.specs.Answers.{Answer, accepted, refused}
 use Rattle.units.specs.Units.{C}
 use Rattle.units.specs.Ceiling.{some_passes, under_ceiling}
 
@@ -76,6 +76,27 @@ module _ {A : Type 0} (n : ℕ) (a : A) where
       go : Dec (n ≤ C) → n ≤ C
       go (yes h) = h
       go (no h) = let z : ◌≡◌ {A = ℕ} 0 1 = cc (e ∙ passes n [] a (omega arith)) in absurd (omega arith)
+
+-- a refusal by the ceiling that a `?` passes on
+module _ {A : Type 0} (ns : List ℕ) (a : A) {k : ℕ} (e : refused k ≡ under_ceiling ns a) where
+  -- its number is 16
+  pub number-16 : k ≡ 16
+  unfolding under_ceiling
+  number-16 = go (some_passes ns) e
+    where
+      go : (t : Bool) → refused k ≡ cond t (refused 16) (accepted a) → k ≡ 16
+      go true h = cc
+      go false h = let z : ◌≡◌ {A = ℕ} 0 1 = cc in absurd (omega arith)
+
+  pub passed-on : {B : Type 0} {answer : Answer B} → answer ≡ refused 16 → refused k ≡ answer
+  passed-on h = rw number-16 (sym h)
+
+-- of a number that is judged first
+pub passed-first :
+    {A B : Type 0} (n : ℕ) (ns : List ℕ) (a : A) (b : B) {k : ℕ}
+    → refused k ≡ under_ceiling (n ∷ []) a
+    → refused k ≡ under_ceiling (n ∷ ns) b
+passed-first n ns a b e = passed-on (n ∷ []) a e (passes n ns b (refused-one n a e))
 
 -- numbers after numbers
 passes_append : (ns ms : List ℕ) → some_passes (ns ++ ms) ≡ (some_passes ns || some_passes ms)
