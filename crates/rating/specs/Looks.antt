@@ -2,8 +2,7 @@
 -- pieces it read"; M-105: "The curve now answers a discharge and a noise together."
 use Rattle.rating.specs.declared.RatedReading.{RatedReading}
 use Rattle.std.specs.Prelude.{ℕ, ◌+◌, ◌-◌, ◌≤◌, ◌<◌, cond, List, [], ◌∷◌, ◌≡◌, ltb, length, get_or}
-use Rattle.refusal.specs.Refusals.{number}
-use Rattle.refusal.specs.Answers.{Answer, accepted, refused, answer_of}
+use Rattle.refusal.specs.Answers.{Answer, accepted, answer_of}
 use Rattle.rating.specs.declared.Piece.{Piece}
 use Rattle.rating.specs.declared.CurveLook.{CurveLook}
 use Rattle.rating.specs.Rating.{piece_for, no_piece}

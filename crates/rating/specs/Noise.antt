@@ -4,6 +4,7 @@ use Rattle.refusal.specs.Answers.{Answer, accepted, refused}
 use Rattle.units.specs.Units.{thousandths}
 use Rattle.units.specs.declared.Discharge.{Discharge}
 use Rattle.units.specs.declared.Variance.{Variance}
+use Rattle.rating.specs.declared.RatedReading.{RatedReading}
 
 -- "t = β × z / 1,000,000 rounded down": β thousandths of z, in 0.001 m³/s
 unfoldable pub deviation : ℕ → ℕ → ℕ

@@ -60,8 +60,7 @@ pub fn rate_on_piece(stage: u64, piece: Piece) -> Result<Discharge, Refusal>
     requires { (stage ≤ 30000) × PieceFits piece }
     ensures { answer_of result ≡ on_piece stage piece }
 {
-    let offset = piece.offset;
-    match offset {
+    match piece.offset {
         Offset::Plus(b) => discharge_at(piece.factor, stage + b),
         Offset::Minus(b) => {
             if stage < b {

@@ -1,32 +1,25 @@
 -- `rate_on_piece` meets its contract.
-use Prim.Native.Nat.{◌≤◌}
-use mathlib.Core.Path.{subst}
-use borrow.Author.Tests.{lt-ltb, le-ltb}
+use Rattle.std.proofs.Common.{rules}
 use native.Mathlib.Omega.{arith}
 use Rattle.rating.specs.Rating.{on_piece, depth, OffsetFits}
 use Rattle.rating.proofs.rate_on_piece.Goals as goal
 
--- b is at most 30,000
-module _ (c : goal.In-Plus) where
-  small : c.in-Plus.b ≤ 30000
-  unfolding OffsetFits
-  small = subst OffsetFits c.in-Plus.is c.requires.1.offset
-
 pub overflow_add-stage : goal.overflow_add-stage
-overflow_add-stage c = omega (arith, small c)
+unfolding OffsetFits
+overflow_add-stage c = let h = rw c.in-Plus.is at c.requires.1.offset in omega arith
 
 pub discharge_at-requires : goal.discharge_at-requires
-discharge_at-requires c = (c.requires.1.factor, omega (arith, small c))
+unfolding OffsetFits
+discharge_at-requires c = let h = rw c.in-Plus.is at c.requires.1.offset in (c.requires.1.factor, omega arith)
 
 pub returns-then-stage-b : goal.returns-then-stage-b
 unfolding on_piece depth
-returns-then-stage-b c = rw (c.in-Minus.is, lt-ltb _ _ c.if-stage-b.true)
+returns-then-stage-b c = search rules
 
 pub returns-in-Plus : goal.returns-in-Plus
 unfolding on_piece depth
-returns-in-Plus c = rw c.in-Plus.is c.discharge_at.ensures
+returns-in-Plus c = search rules
 
 pub returns-else-stage-b : goal.returns-else-stage-b
 unfolding on_piece depth
-returns-else-stage-b c =
-    rw (c.in-Minus.is, le-ltb _ _ c.if-stage-b.false) c.discharge_at-in-Minus.ensures
+returns-else-stage-b c = search rules
