@@ -1,7 +1,7 @@
 -- Laws of the display: a count and 1,000,000 are floats exactly, so that the one division gives the float nearest to their quotient.
-use Prim.Native.Nat.{ℕ, ◌*◌, ◌^◌, ◌≤◌, ◌<◌}
+use Prim.Native.Nat.{ℕ, ◌*◌, ◌^◌, ◌≤◌}
 use mathlib.Core.Bool.{false}
-use mathlib.Core.Path.{◌≡◌, refl, sym, ◌∙◌}
+use mathlib.Core.Path.{◌≡◌, refl}
 use native.Mathlib.Nat.{mul-pos}
 use native.Mathlib.Omega.{arith}
 use lib.Dec.{T, le→leb}
@@ -11,10 +11,8 @@ use lib.Ieee.Back.{round_whole}
 use lib.Ieee.Exact.{HasValue}
 use lib.Ieee.Fits.{down_pos}
 use lib.Ieee.Scale.{round_same}
-use Rattle.refusal.specs.Answers.{accepted, refused}
 use Rattle.units.specs.Units.{C}
-use Rattle.units.proofs.CeilingLaws.{passes, stays, none_left}
-use Rattle.display.specs.Display.{cubic_metres, shown, show_answer}
+use Rattle.display.specs.Display.{cubic_metres}
 
 -- "turned into a float exactly"
 pub count_held : (n : ℕ) → n ≤ C → T (in_float binary64 (pos n))
@@ -49,23 +47,3 @@ shown-nearest n h = rw million (go (of_int binary64 (pos n)) (count-exact n h))
         rw v.0
         (round_same binary64 false (m * up e * 1) (15625 * 2 ^ 6 * down e) n 1_000_000 (mul-pos (omega arith) (down_pos e)) (omega arith)
         (same m (up e) (down e) v.1))
-
--- what the code answers
-module _ (discharge margin : ℕ) where
-  pub discharge-above : C < discharge → refused 16 ≡ show_answer discharge margin
-  unfolding show_answer
-  discharge-above h = sym (passes _ _ _ h)
-
-  pub margin-above : discharge ≤ C → C < margin → refused 16 ≡ show_answer discharge margin
-  unfolding show_answer
-  margin-above l h = sym (stays _ _ _ l ∙ passes _ _ _ h)
-
-  pub both-shown :
-      {q e : Float}
-      → discharge ≤ C
-      → margin ≤ C
-      → q ≡ cubic_metres discharge
-      → e ≡ cubic_metres margin
-      → accepted (record { discharge = q; margin = e }) ≡ show_answer discharge margin
-  unfolding show_answer shown
-  both-shown l h p k = rw (p, k) (sym (stays _ _ _ l ∙ (stays _ _ _ h ∙ none_left _)))

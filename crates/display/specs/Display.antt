@@ -1,11 +1,9 @@
 -- Document 02, M-104: "For the display each forecast figure becomes a record of discharge and margin as floats, the grain count turned into a
 -- float exactly and divided once by 1,000,000."
-use Rattle.refusal.specs.declared.Refusal.{Refusal}
-use Rattle.std.specs.Prelude.{ℕ, [], ◌∷◌, Float, pos, Result, Ok, Err}
+use Rattle.std.specs.Prelude.{ℕ, [], ◌∷◌, Float, pos}
 use Rattle.std.specs.Float.{binary64}
 use Rattle.std.specs.Float.Ieee.{div, of_int}
-use Rattle.refusal.specs.Refusals.{number}
-use Rattle.refusal.specs.Answers.{Answer, accepted, refused, answer_of}
+use Rattle.refusal.specs.Answers.{Answer}
 use Rattle.units.specs.Ceiling.{under_ceiling}
 use Rattle.display.specs.declared.Shown.{Shown}
 
@@ -20,4 +18,3 @@ shown discharge margin = record { discharge = cubic_metres discharge; margin = c
 -- a count above C, which no forecast hands out, is refused 16
 unfoldable pub show_answer : ℕ → ℕ → Answer Shown
 show_answer discharge margin = under_ceiling (discharge ∷ (margin ∷ [])) (shown discharge margin)
-

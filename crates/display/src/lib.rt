@@ -28,9 +28,10 @@ fn cubic_metres(grains: Discharge) -> f64
 pub fn show(discharge: u64, margin: u64) -> Result<Shown, Refusal>
     ensures { answer_of result ≡ show_answer discharge margin }
 {
-    let q = Discharge::new(discharge)?;
-    let e = Discharge::new(margin)?;
-    let discharge = cubic_metres(q);
-    let margin = cubic_metres(e);
-    Ok(Shown { discharge, margin })
+    let discharge = Discharge::new(discharge)?;
+    let margin = Discharge::new(margin)?;
+    Ok(Shown {
+        discharge: cubic_metres(discharge),
+        margin: cubic_metres(margin),
+    })
 }

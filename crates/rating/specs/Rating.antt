@@ -32,6 +32,11 @@ on_piece h p = and_then (depth h p.offset) (discharge_at p.factor)
 unfoldable pub rated : ℕ → List Piece → Answer Discharge
 rated h pieces = and_then (piece_for h pieces) (on_piece h)
 
+-- how far b is from 0
+abbrev pub offset_size : Offset → ℕ
+offset_size (Plus b) = b
+offset_size (Minus b) = b
+
 -- what rule 7 accepts of a piece in use: a 1 to 1,000,000, b −30,000 to 30,000
 unfoldable pub OffsetFits : Offset → Type 0
 OffsetFits (Plus b) = b ≤ 30000

@@ -4,7 +4,7 @@
 ghost use Rattle.std.specs.Prelude.{◌≡◌, ◌≤◌};
 ghost use Rattle.refusal.specs.Answers.{answer_of};
 ghost use Rattle.units.specs.Units.{C};
-ghost use Rattle.rating.specs.Rating.{discharge_at, on_piece, PieceFits};
+ghost use Rattle.rating.specs.Rating.{offset_size, discharge_at, on_piece, PieceFits};
 ghost use Rattle.rating.specs.Noise.{noise_of};
 ghost use Rattle.rating.specs.Bounds.{NoiseInRange};
 
@@ -16,6 +16,17 @@ use units::{Discharge, Stage, Variance};
 pub enum Offset {
     Plus(u64),
     Minus(u64),
+}
+
+impl Offset {
+    // How far b is from 0.
+    pub fn size(self) -> u64
+        ensures { result ≡ offset_size self }
+    {
+        match self {
+            Offset::Plus(b) | Offset::Minus(b) => b,
+        }
+    }
 }
 
 // A piece of a rating curve: z = a (h + b)² / 1,000 for the stages h below its top.
