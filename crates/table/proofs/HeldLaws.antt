@@ -1,19 +1,15 @@
 -- Laws of an accepted table that is read where it stands.
-use Rattle.std.specs.Prelude.{Ok, Err}
 use Prim.{Unit}
 use Prim.Native.Nat.{ℕ, ◌+◌, ◌*◌, ◌≤◌, ◌<◌}
 use mathlib.Core.Bool.{true}
 use mathlib.Core.List.{List}
 use mathlib.Core.Logic.{⊎_elim, inl, inr}
-use mathlib.Core.Path.{◌≡◌, sym, ap, ◌∙◌}
+use mathlib.Core.Path.{◌≡◌, sym, ◌∙◌}
 use borrow.Author.Tests.{leb-true, eqb-true}
 use native.Mathlib.Omega.{arith}
 use lib.Dec.{leb, eqb}
 use lib.ListN.{length}
-use Rattle.refusal.specs.Refusals.{number}
-use Rattle.refusal.specs.Answers.{accepted, refused, answer_of}
-use Rattle.refusal.specs.declared.Refusal.{Refusal}
-use Rattle.refusal.proofs.RuleLaws.{not-both}
+use Rattle.refusal.specs.Answers.{accepted}
 use Rattle.fields.specs.Bytes.{number32}
 use Rattle.fields.proofs.RangeLaws.{both, either}
 use Rattle.elements.specs.Elements.{element_at}
@@ -24,10 +20,9 @@ use Rattle.gauges.specs.Places.{Versioned, GaugePlaced}
 use Rattle.gauges.specs.Bounds.{GaugeKnown}
 use Rattle.gauges.proofs.GaugeLaws.{place-before, gauge-of-more}
 use Rattle.table.specs.declared.Counts.{Counts}
-use Rattle.table.specs.declared.TableAnswer.{TableAnswer}
 use Rattle.table.specs.Tables.{table_of}
 use Rattle.table.specs.Rules.{length_fits, version_fits, size_fits, table_rules}
-use Rattle.table.specs.Decoded.{CountsHeld, TableRead}
+use Rattle.table.specs.Decoded.{CountsHeld, TableCounted}
 use Rattle.table.specs.Bounds.{AcceptedTable, Counted, CountedPlaces, CountedTable}
 use Rattle.table.specs.InUse.{in_use, table_in}
 use Rattle.table.proofs.InUseLaws.{element-read, gauge-read, extra-held, bounds-in-use}
@@ -133,38 +128,18 @@ pub record TableKnown (bytes : List ℕ) (read : Counts) : Type 0 where
   pub kept : table_rules {A = Unit} bytes (accepted tt) ≡ accepted tt
   pub counted : CountedPlaces bytes read
 
-module _ (bytes : List ℕ) (r : TableAnswer) (h : TableRead bytes r) where
-  pub table-accepted : r.verdict ≡ (Ok tt) → TableKnown bytes r.counts
-  unfolding table_in in_use
-  table-accepted e =
-      let kept = sym h.verdict ∙ ap answer_of e in
-      record {
-        kept = kept;
-        counted = record {
-          counted = record {
-            table = accepted-table bytes kept;
-            held = counts-in-use bytes (h.counts kept);
-            basins = h.basins kept ∙ count-in-use basin_of bytes;
-            dams = h.dams kept ∙ count-in-use dam_of bytes;
-          };
-          extra = h.extra kept ∙ extra-held (table_of bytes) (table_of bytes).elements (omega arith);
-        };
-      }
-
-  pub table-refused : {k : Refusal} → r.verdict ≡ Err k → table_rules {A = Unit} bytes (accepted tt) ≡ refused (number k)
-  table-refused e = sym h.verdict ∙ ap answer_of e
-
--- a table that is refused: nothing is said of its counts
-pub refused-read :
-    (bytes : List ℕ) (r : TableAnswer) {k : Refusal}
-    → r.verdict ≡ Err k
-    → table_rules {A = Unit} bytes (accepted tt) ≡ refused (number k)
-    → TableRead bytes r
-refused-read bytes r e h =
+pub table-accepted : (bytes : List ℕ) (read : Counts) → TableCounted bytes read → TableKnown bytes read
+unfolding table_in in_use
+table-accepted bytes read h =
     record {
-      verdict = ap answer_of e ∙ sym h;
-      counts = λ a. absurd (not-both a h);
-      basins = λ a. absurd (not-both a h);
-      dams = λ a. absurd (not-both a h);
-      extra = λ a. absurd (not-both a h);
+      kept = h.kept;
+      counted = record {
+        counted = record {
+          table = accepted-table bytes h.kept;
+          held = counts-in-use bytes h.held;
+          basins = h.basins ∙ count-in-use basin_of bytes;
+          dams = h.dams ∙ count-in-use dam_of bytes;
+        };
+        extra = h.extra ∙ extra-held (table_of bytes) (table_of bytes).elements (omega arith);
+      };
     }

@@ -29,17 +29,16 @@ pub struct Counts {
 }
 
 // Rule 1: the length field counts the bytes after it, and the header is whole.
+#[tactic(auto, unfolding(crate::specs::Rules::length_fits))]
 pub fn length_fits(table: &[u8]) -> bool
     ensures { result ≡ length_fits table.now }
 {
     let bytes = table.len();
-    if bytes < 10 {
-        return false;
-    }
-    whole32(table, 0) as usize + 4 == bytes
+    bytes >= 10 && whole32(table, 0) as usize + 4 == bytes
 }
 
 // Rule 2.
+#[tactic(auto, unfolding(crate::specs::Rules::version_fits, gauges::specs::Gauges::table_version))]
 pub fn version_fits(table: &[u8]) -> bool
     requires { 10 ≤ length table.now }
     ensures { result ≡ version_fits table.now }
@@ -49,6 +48,7 @@ pub fn version_fits(table: &[u8]) -> bool
 }
 
 // Rule 3: the ranges of T, L, N and M.
+#[tactic(auto, unfolding(crate::specs::Rules::counts_fit, crate::specs::Tables::table_of))]
 pub fn counts_fit(table: &[u8]) -> bool
     requires { 10 ≤ length table.now }
     ensures { result ≡ counts_fit (table_of table.now) }
@@ -68,6 +68,7 @@ pub fn size_fits(table: &[u8]) -> bool
 }
 
 // The counts that the header says; basins, dams and extra tanks are not counted yet.
+#[tactic(auto, unfolding(crate::specs::Tables::table_of))]
 pub fn counts_of(table: &[u8]) -> Counts
     requires { 10 ≤ length table.now }
     ensures { CountsHeld result (table_of table.now) }
@@ -84,18 +85,14 @@ pub fn counts_of(table: &[u8]) -> Counts
 }
 
 // The counts of an accepted table with so many basins and dams; its extra tanks are not counted.
+#[tactic(auto, unfolding(crate::specs::InUse::table_in, crate::specs::InUse::in_use))]
 pub fn counts_with(table: &[u8], basins: usize, dams: usize) -> Counts
     requires { AcceptedTable table.now × ((basins ≡ basin_count (table_in table.now)) × (dams ≡ dam_count (table_in table.now))) }
     ensures { Counted table.now result }
 {
-    let header = counts_of(table);
     Counts {
-        step: header.step,
-        leads: header.leads,
-        elements: header.elements,
-        gauges: header.gauges,
         basins,
         dams,
-        extra: 0,
+        ..counts_of(table)
     }
 }
