@@ -7,7 +7,7 @@ use borrow.Author.Tests.{eqb-true, eqb-false}
 use native.Mathlib.Omega.{arith}
 use lib.Dec.{eqb}
 use Rattle.elements.specs.declared.Element.{Element}
-use Rattle.elements.specs.Kinds.{tanks}
+use Rattle.elements.specs.Kinds.{tanks, same_kind}
 use Rattle.elements.specs.Bounds.{AcceptedElement, ElementBounds}
 use Rattle.table.specs.Tables.{TableValues}
 use Rattle.table.specs.Bounds.{AcceptedBounds, TableBounds}
@@ -67,7 +67,7 @@ module _ (t : TableValues) (b : AcceptedBounds t) where
 
   last-bounds : (i : ℕ) → i < t.elements → ElementBounds t.step many (last_cell t i) (last_of t (t.element i))
   unfolding last_of
-  last-bounds i l = go (eqb e.kind tanks) refl
+  last-bounds i l = go (same_kind e.kind tanks) refl
     where
       e : Element
       e = t.element i
@@ -80,7 +80,7 @@ module _ (t : TableValues) (b : AcceptedBounds t) where
 
       go :
           (x : Bool)
-          → eqb e.kind tanks ≡ x
+          → same_kind e.kind tanks ≡ x
           → ElementBounds t.step many (last_cell t i) (cond x (tank_of e (inlet_of t e.down)) (draining_into e (inlet_of t e.down)))
       go true k = tank-bounds _ _ i e (b.element i l) many (last_cell t i) _ (eqb-true _ _ k) most later
       go false k = one-bounds _ _ i e (b.element i l) many (last_cell t i) _ (eqb-false _ _ k) most later

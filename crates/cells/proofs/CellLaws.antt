@@ -9,32 +9,33 @@ use native.Mathlib.Numerals.{add-one}
 use native.Mathlib.Omega.{arith}
 use lib.Dec.{leb, eqb}
 use Rattle.elements.specs.declared.Element.{Element}
-use Rattle.elements.specs.Kinds.{basin, reach, tanks, by_kind, extra_tanks}
+use Rattle.elements.specs.Kinds.{basin, reach, tanks, by_kind, extra_tanks, same_kind}
 use Rattle.elements.specs.Elements.{no_element}
 use Rattle.table.specs.Tables.{TableValues}
 use Rattle.table.proofs.InUseLaws.{below-used}
 use Rattle.table.proofs.CountLaws.{extra-rise}
 use Rattle.table.specs.KindCounts.{extra_before, extra_count}
 use Rattle.cells.specs.Cells.{first_cell, last_cell, element_among, element_of, cell_at, cell_place, last_of, tank_of, draining_into, inlet_of, cells}
+use Rattle.elements.proofs.KindLaws.{ne-same}
 
 -- what an element's last cell is: a reach of tanks ends in a reach
 unfoldable pub cell_kind : Element → ℕ
-cell_kind e = cond (eqb e.kind tanks) reach e.kind
+cell_kind e = cond (same_kind e.kind tanks) reach e.kind
 
 pub one-kind : (e : Element) → e.kind ≢ tanks → cell_kind e ≡ e.kind
 unfolding cell_kind
-one-kind e n = rw (ne_eqb e.kind tanks n)
+one-kind e n = rw (ne-same e.kind tanks n)
 
 -- so what only a basin or a dam decides is the same for the element
 module _ {A : Type 0} (of_basin none of_dam : A) where
   pub by-last-kind : (e : Element) → by_kind (cell_kind e) of_basin none of_dam none ≡ by_kind e.kind of_basin none of_dam none
   unfolding cell_kind by_kind
-  by-last-kind e = go (eqb e.kind tanks) refl
+  by-last-kind e = go (same_kind e.kind tanks) refl
     where
       tanks-none : (k : ℕ) → k ≡ tanks → by_kind reach of_basin none of_dam none ≡ by_kind k of_basin none of_dam none
       tanks-none k q = rw q
 
-      go : (x : Bool) → eqb e.kind tanks ≡ x → by_kind (cond x reach e.kind) of_basin none of_dam none ≡ by_kind e.kind of_basin none of_dam none
+      go : (x : Bool) → same_kind e.kind tanks ≡ x → by_kind (cond x reach e.kind) of_basin none of_dam none ≡ by_kind e.kind of_basin none of_dam none
       go true q = tanks-none e.kind (eqb-true _ _ q)
       go false q = refl
 
@@ -189,9 +190,9 @@ module _ (t : TableValues) where
   -- only a reach of tanks has a cell above its last
   pub inner-tanks : {i c : ℕ} → CellIn t i c → c < last_cell t i → (t.element i).kind ≡ tanks
   unfolding last_cell extra_before extra_tanks
-  inner-tanks {i} {c} h n = go (eqb (t.element i).kind tanks) refl h.from n
+  inner-tanks {i} {c} h n = go (same_kind (t.element i).kind tanks) refl h.from n
     where
-      go : (x : Bool) → eqb (t.element i).kind tanks ≡ x → i + extra_before t i ≤ c → c < i + (extra_before t i + cond x ((t.element i).runoff - 1) 0) → (t.element i).kind ≡ tanks
+      go : (x : Bool) → same_kind (t.element i).kind tanks ≡ x → i + extra_before t i ≤ c → c < i + (extra_before t i + cond x ((t.element i).runoff - 1) 0) → (t.element i).kind ≡ tanks
       go true k a b = eqb-true _ _ k
       go false k a b = absurd (omega (arith, a, b))
 
@@ -207,7 +208,7 @@ module _ (t : TableValues) where
   -- the kinds of the cells
   pub last-kind : (i : ℕ) → i < t.elements → (cell_at t (last_cell t i)).kind ≡ cell_kind (t.element i)
   unfolding last_of cell_kind tank_of draining_into
-  last-kind i l = ap (λ (e : Element). e.kind) (last-cell i l) ∙ go (eqb (t.element i).kind tanks)
+  last-kind i l = ap (λ (e : Element). e.kind) (last-cell i l) ∙ go (same_kind (t.element i).kind tanks)
     where
       go : (x : Bool) → (cond x (tank_of (t.element i) (inlet_of t (t.element i).down)) (draining_into (t.element i) (inlet_of t (t.element i).down))).kind ≡ cond x reach (t.element i).kind
       go true = refl
@@ -215,7 +216,7 @@ module _ (t : TableValues) where
 
   pub last-basin : (i : ℕ) → i < t.elements → (cell_at t (last_cell t i)).kind ≡ basin → (t.element i).kind ≡ basin
   unfolding cell_kind
-  last-basin i l k = go (eqb (t.element i).kind tanks) (sym (last-kind i l) ∙ k)
+  last-basin i l k = go (same_kind (t.element i).kind tanks) (sym (last-kind i l) ∙ k)
     where
       go : (x : Bool) → cond x reach (t.element i).kind ≡ basin → (t.element i).kind ≡ basin
       go true e = absurd (omega (arith, e))

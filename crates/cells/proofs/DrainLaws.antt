@@ -7,7 +7,7 @@ use borrow.Author.Tests.{le-ltb, leb-true, leb-false}
 use native.Mathlib.Omega.{arith}
 use lib.Dec.{leb, eqb}
 use Rattle.elements.specs.declared.Element.{Element}
-use Rattle.elements.specs.Kinds.{dam, tanks, extra_tanks}
+use Rattle.elements.specs.Kinds.{dam, tanks, extra_tanks, same_kind}
 use Rattle.table.specs.Tables.{TableValues}
 use Rattle.table.specs.KindCounts.{extra_before, extra_count}
 use Rattle.table.specs.InUse.{below}
@@ -40,7 +40,7 @@ module _ (t : TableValues) where
 
   last-down : (e : Element) → (last_of t e).down ≡ inlet_of t e.down
   unfolding last_of tank_of draining_into
-  last-down e = go (eqb e.kind tanks)
+  last-down e = go (same_kind e.kind tanks)
     where
       go : (x : Bool) → (cond x (tank_of e (inlet_of t e.down)) (draining_into e (inlet_of t e.down))).down ≡ inlet_of t e.down
       go true = refl
@@ -97,7 +97,7 @@ module _ (t : TableValues) where
       ∙ (ap (λ (e : Element). e.kind) (cell-used t (last_cell t k) (last-most t k l))
       ∙ (last-kind t k l ∙ (one-kind (t.element k) (λ e. omega (arith, d, e)) ∙ d)))
     where
-      no_extra : cond (eqb (t.element k).kind tanks) ((t.element k).runoff - 1) 0 ≡ 0
+      no_extra : cond (same_kind (t.element k).kind tanks) ((t.element k).runoff - 1) 0 ≡ 0
       no_extra = rw d
 
   -- "a gauge corrects the last, whose figures are the element's": the cell of a gauge stands at its element's place

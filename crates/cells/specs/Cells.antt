@@ -4,7 +4,7 @@
 use Rattle.std.specs.Prelude.{ℕ, zero, suc, ◌+◌, ◌-◌, cond, leb, eqb}
 use Rattle.units.specs.Units.{thousandths}
 use Rattle.elements.specs.declared.Element.{Element}
-use Rattle.elements.specs.Kinds.{reach, tanks}
+use Rattle.elements.specs.Kinds.{reach, tanks, same_kind}
 use Rattle.gauges.specs.declared.Gauge.{Gauge}
 use Rattle.elements.specs.Elements.{no_element}
 use Rattle.table.specs.Tables.{TableValues}
@@ -67,7 +67,7 @@ inlet_of t (suc i) = first_cell t i + 1
 
 -- the last cell of an element drains where the element drains; every other tank into the next one
 unfoldable pub last_of : TableValues → Element → Element
-last_of t e = cond (eqb e.kind tanks) (tank_of e (inlet_of t e.down)) (draining_into e (inlet_of t e.down))
+last_of t e = cond (same_kind e.kind tanks) (tank_of e (inlet_of t e.down)) (draining_into e (inlet_of t e.down))
 
 unfoldable pub cell_at : TableValues → ℕ → Element
 cell_at t c =

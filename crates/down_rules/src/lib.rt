@@ -6,9 +6,10 @@ ghost use Rattle.sizes.specs.Sizes.{most_elements};
 ghost use Rattle.elements.specs.Elements.{element_at};
 ghost use Rattle.elements.specs.Rules.{down_fits};
 
-use elements::{down_at, kind_at};
+use elements::{Kind, down_at, kind_at};
 
 // Rule 6 on element i of n, counted from 0.
+#[tactic(auto, unfolding(elements::specs::Rules::down_fits, elements::specs::Kinds::same_kind))]
 pub fn down_fits(table: &[u8], n: usize, i: usize) -> bool
     requires { (n ≤ most_elements) × ((i < n) × (26 * n + 10 ≤ length table.now)) }
     ensures { result ≡ down_fits n (element_at table.now) i }
@@ -23,6 +24,8 @@ pub fn down_fits(table: &[u8], n: usize, i: usize) -> bool
     if n < down {
         return false;
     }
-    let kind = kind_at(table, down - 1);
-    kind != elements::BASIN
+    match kind_at(table, down - 1) {
+        Some(Kind::Basin) => false,
+        Some(Kind::Reach | Kind::Dam | Kind::Tanks) | None => true,
+    }
 }

@@ -1,24 +1,13 @@
 // Rule 5: the fields of an element.
 #![tactic(auto)]
 
-ghost use Rattle.std.specs.Prelude.{◌≡◌, ◌&&◌, eqb};
-ghost use Rattle.elements.specs.Rules.{lag_fits, basin_fits, reach_fits, dam_fits, tanks_fit};
-ghost use Rattle.elements.specs.Kinds.{tanks};
-ghost use Rattle.element_rules.specs.Judged.{judged_kind, judged};
+ghost use Rattle.std.specs.Prelude.{◌≡◌};
+ghost use Rattle.elements.specs.Rules.{lag_fits, basin_fits, reach_fits, dam_fits, tanks_fit, kind_fits};
+ghost use Rattle.element_rules.specs.Judged.{judged};
 
-use elements::Element;
+use elements::{Element, Kind};
 use fields::range::in_range;
 use units::{Discharge, Variance};
-
-// What rule 5 says of an element: it is refused, or it is of one of the kinds.
-#[derive(Clone, Copy)]
-pub enum JudgedElement {
-    Refused,
-    Basin,
-    Reach,
-    Dam,
-    Tanks,
-}
 
 // The lag of an element that stores water.
 #[tactic(auto, unfolding(elements::specs::Rules::lag_fits))]
@@ -31,6 +20,7 @@ fn lag_fits(step: u64, e: Element) -> bool
     e.lag <= 60_000
 }
 
+#[tactic(auto, unfolding(elements::specs::Rules::basin_fits))]
 fn basin_fits(e: Element) -> bool
     ensures { result ≡ basin_fits e }
 {
@@ -44,6 +34,7 @@ fn basin_fits(e: Element) -> bool
     noise.0 <= 100_000_000
 }
 
+#[tactic(auto, unfolding(elements::specs::Rules::reach_fits))]
 fn reach_fits(e: Element) -> bool
     ensures { result ≡ reach_fits e }
 {
@@ -51,18 +42,15 @@ fn reach_fits(e: Element) -> bool
     (e.area == 0) & (e.runoff == 0) & (noise.0 == 0)
 }
 
-// Tanks, and what they ask of the other fields. (The kind is tested with these, not in an arm of its own: of four arms the compiler makes a table
-// of jumps.)
+#[tactic(auto, unfolding(elements::specs::Rules::tanks_fit))]
 fn tanks_fit(e: Element) -> bool
-    ensures { result ≡ (eqb e.kind tanks && tanks_fit e) }
+    ensures { result ≡ tanks_fit e }
 {
     let noise = e.rain_noise;
-    if !((e.kind == elements::TANKS) & (e.area == 0) & (noise.0 == 0)) {
-        return false;
-    }
-    in_range(e.runoff, 2, 8)
+    (e.area == 0) & in_range(e.runoff, 2, 8) & (noise.0 == 0)
 }
 
+#[tactic(auto, unfolding(elements::specs::Rules::dam_fits))]
 fn dam_fits(e: Element) -> bool
     ensures { result ≡ dam_fits e }
 {
@@ -72,64 +60,39 @@ fn dam_fits(e: Element) -> bool
     reach_fits(e)
 }
 
-// The kind byte chooses the ranges of lag, area, runoff and rain noise; every other byte is refused. (In this order of the kinds the
-// compiler takes the fewest instructions.)
-fn judge_kind(step: u64, e: Element) -> JudgedElement
-    ensures { result ≡ judged_kind step e }
+// The kind chooses the ranges of lag, area, runoff and rain noise.
+#[tactic(auto, unfolding(elements::specs::Rules::kind_fits, elements::specs::Kinds::by_kind, elements::specs::Kinds::same_kind))]
+fn kind_fits(step: u64, e: Element) -> bool
+    ensures { result ≡ kind_fits step e }
 {
-    let kind = e.kind;
-    match kind {
-        elements::REACH => {
-            if !lag_fits(step, e) {
-                return JudgedElement::Refused;
-            }
-            if !reach_fits(e) {
-                return JudgedElement::Refused;
-            }
-            JudgedElement::Reach
-        }
-        elements::DAM => {
-            if !dam_fits(e) {
-                return JudgedElement::Refused;
-            }
-            JudgedElement::Dam
-        }
-        elements::BASIN => {
-            if !lag_fits(step, e) {
-                return JudgedElement::Refused;
-            }
-            if !basin_fits(e) {
-                return JudgedElement::Refused;
-            }
-            JudgedElement::Basin
-        }
-        _ => {
-            if !tanks_fit(e) {
-                return JudgedElement::Refused;
-            }
-            if !lag_fits(step, e) {
-                return JudgedElement::Refused;
-            }
-            JudgedElement::Tanks
-        }
+    match e.kind {
+        Some(Kind::Basin) => lag_fits(step, e) && basin_fits(e),
+        Some(Kind::Reach) => lag_fits(step, e) && reach_fits(e),
+        Some(Kind::Dam) => dam_fits(e),
+        Some(Kind::Tanks) => lag_fits(step, e) && tanks_fit(e),
+        None => false,
     }
 }
 
-// Rule 5 on one element.
-pub fn judge_element(step: u64, e: Element) -> JudgedElement
+// Rule 5 on one element: its kind where it keeps the rule.
+#[tactic(auto, unfolding(elements::specs::Rules::element_fits, crate::specs::Judged::judged))]
+pub fn judge_element(step: u64, e: Element) -> Option<Kind>
     ensures { result ≡ judged step e }
 {
     let q = e.first_discharge;
     let v = e.first_variance;
     let w = e.system_noise;
     if Discharge::CEILING < q.0 {
-        return JudgedElement::Refused;
+        return None;
     }
     if Variance::CEILING < v.0 {
-        return JudgedElement::Refused;
+        return None;
     }
     if 100_000_000 < w.0 {
-        return JudgedElement::Refused;
+        return None;
     }
-    judge_kind(step, e)
+    if !kind_fits(step, e) {
+        return None;
+    }
+    e.kind
 }

@@ -10,13 +10,14 @@ use Rattle.method.specs.Routing.{routed, routing_numbers}
 use Rattle.method.specs.Correction.{corrected, correction_numbers}
 use Rattle.elements.specs.declared.Element.{Element}
 use Rattle.elements.specs.Kinds.{by_kind}
+use Rattle.elements.specs.declared.Kind.{Kind}
 
 -- M-100: "Its discharge is the release, margin 0, and its variance is W, margin 0.", of a dam and its release
 unfoldable pub released : Element → ℕ → Figures
 released e release = figures (estimate release 0) (estimate e.system_noise.0 0)
 
 -- what an element has of its own: a basin the inflow from its rain, a dam what it lets out
-unfoldable pub own_of : ℕ → Figures → Figures → Figures
+unfoldable pub own_of : Option Kind → Figures → Figures → Figures
 own_of kind inflow let_out = by_kind kind inflow no_inflow let_out no_inflow
 
 -- "A reading then corrects the element before anything below it is worked out."

@@ -16,7 +16,7 @@ ghost use Rattle.element_step.specs.Answers.{corrected_answer, moved_answer, sto
 
 use rating::RatedReading;
 use correction::correct;
-use elements::Element;
+use elements::{Element, Kind};
 use inflow::{basin_inflow, reach_inflow};
 use method::Figures;
 use refusal::Refusal;
@@ -127,15 +127,15 @@ pub fn step_element(e: Element, weight: u64, intake: Intake, old: Figures) -> Re
     let kind = e.kind;
     let observation = intake.observation;
     match kind {
-        elements::BASIN => {
+        Some(Kind::Basin) => {
             let x = step_basin(e, weight, intake.own, old)?;
             correct_by(observation, x)
         }
-        elements::REACH => {
+        Some(Kind::Reach) => {
             let x = step_reach(e, weight, intake.above, old)?;
             correct_by(observation, x)
         }
-        elements::DAM => Ok(dam_figures(e, intake.own)),
+        Some(Kind::Dam) => Ok(dam_figures(e, intake.own)),
         _ => Err(Refusal::ElementField),
     }
 }
@@ -174,9 +174,9 @@ pub fn lead_element(e: Element, weight: u64, intake: Intake, old: Figures) -> Re
 {
     let kind = e.kind;
     match kind {
-        elements::BASIN => lead_basin(e, weight, intake.own, intake.lead, old),
-        elements::REACH => lead_reach(e, weight, intake.above, old),
-        elements::DAM => Err(Refusal::ElementField),
+        Some(Kind::Basin) => lead_basin(e, weight, intake.own, intake.lead, old),
+        Some(Kind::Reach) => lead_reach(e, weight, intake.above, old),
+        Some(Kind::Dam) => Err(Refusal::ElementField),
         _ => Err(Refusal::ElementField),
     }
 }

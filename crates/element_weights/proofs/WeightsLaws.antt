@@ -12,8 +12,8 @@ use Rattle.units.specs.Units.{S}
 use Rattle.weighting.specs.Weight.{weight}
 use Rattle.elements.specs.declared.Element.{Element}
 use Rattle.elements.specs.Elements.{element_at}
-use Rattle.elements.specs.Kinds.{dam, tanks, by_kind}
-use Rattle.elements.proofs.KindLaws.{kind-cases, no_other}
+use Rattle.elements.specs.Kinds.{dam, tanks, by_kind, same_kind}
+use Rattle.elements.proofs.KindLaws.{kind-cases, no_other, eq-same, same-true}
 use Rattle.table.specs.Tables.{TableValues}
 use Rattle.table.specs.InUse.{table_in}
 use Rattle.table.proofs.InUseLaws.{element-read}
@@ -46,14 +46,14 @@ module _ (bytes : List ℕ) (i : ℕ) {step lag : ℕ} (known : ElementKnown byt
   unfolding weight_of cells last_of tank_of draining_into by_kind
   weight-worked {w} n h =
       rw (cell-is (table_in bytes) i known.used, element-read bytes i known.used)
-      (go (eqb e.kind tanks) refl)
+      (go (same_kind e.kind tanks) refl)
     where
       is : w ≡ weight (table_in bytes).step e.lag
       is = h ∙ (ap (weight step) read ∙ ap (λ (T : ℕ). weight T e.lag) known.step)
 
       go :
           (x : Bool)
-          → eqb e.kind tanks ≡ x
+          → same_kind e.kind tanks ≡ x
           → let c = cond x (tank_of e (inlet_of (table_in bytes) e.down)) (draining_into e (inlet_of (table_in bytes) e.down)) in
           w ≡ by_kind c.kind (weight (table_in bytes).step c.lag) (weight (table_in bytes).step c.lag) 0 0
       go true k = is
@@ -66,17 +66,17 @@ module _ (bytes : List ℕ) (i : ℕ) {step lag : ℕ} (known : ElementKnown byt
   unfolding weight_of cells last_of tank_of draining_into by_kind
   no-weight z =
       rw (cell-is (table_in bytes) i known.used, element-read bytes i known.used)
-      (go (eqb e.kind tanks) refl)
+      (go (same_kind e.kind tanks) refl)
     where
       small : e.kind ≢ dam → ⊥
       small n = omega (arith, z, read, known.table.bounds.step_least, ((element-bounds bytes known.table known.used).lag n).0)
 
       go :
           (x : Bool)
-          → eqb e.kind tanks ≡ x
+          → same_kind e.kind tanks ≡ x
           → let c = cond x (tank_of e (inlet_of (table_in bytes) e.down)) (draining_into e (inlet_of (table_in bytes) e.down)) in
           0 ≡ by_kind c.kind (weight (table_in bytes).step c.lag) (weight (table_in bytes).step c.lag) 0 0
-      go true k = absurd (small (λ d. omega (arith, eqb-true e.kind tanks k, d)))
+      go true k = absurd (small (λ d. omega (arith, same-true e.kind tanks k, d)))
       go false k =
           kind-cases (λ (x : ℕ). 0 ≡ x) e.kind (λ b. absurd (small (λ d. omega (arith, b, d))))
           (λ r. absurd (small (λ d. omega (arith, r, d)))) (λ _. refl) (λ _ _ _. refl)
@@ -94,4 +94,4 @@ weight-held {t} h i used = (h.at i used, rw (h.at i used) (weight-of-most (cells
 pub tank-weight : (t : TableValues) (i c : ℕ) → CellIn t i c → c < last_cell t i → weight_of (cells t) c ≡ element_weight t i
 unfolding weight_of last_of tank_of by_kind
 tank-weight t i c h less =
-    rw (cell-used t c (omega (arith, less, last-most t i h.used)) ∙ inner-cell t h less, cell-is t i h.used, eq-eqb (t.element i).kind tanks (inner-tanks t h less))
+    rw (cell-used t c (omega (arith, less, last-most t i h.used)) ∙ inner-cell t h less, cell-is t i h.used, eq-same (t.element i).kind tanks (inner-tanks t h less))

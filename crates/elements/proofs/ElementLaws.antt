@@ -2,7 +2,7 @@
 use Prim.Native.Nat.{ℕ, ◌+◌, ◌-◌, ◌≤◌, ◌<◌}
 use mathlib.Core.Bool.{Bool, true, false, not, ◌&&◌, ◌||◌, cond, true≢false}
 use mathlib.Core.Logic.{◌⊎◌, inl, inr, ◌≢◌, ⊎_elim}
-use mathlib.Core.Path.{◌≡◌, refl, sym, ap}
+use mathlib.Core.Path.{◌≡◌, refl, sym, ap, ◌∙◌}
 use borrow.Author.Tests.{ltb-true, leb-true, eqb-true}
 use native.Mathlib.Omega.{arith}
 use lib.Dec.{ltb, leb, eqb}
@@ -12,8 +12,8 @@ use Rattle.fields.proofs.RangeLaws.{both, all_three, all-four, either, joined_sa
 use Rattle.elements.specs.declared.Element.{Element}
 use Rattle.elements.specs.Rules.{lag_fits, basin_fits, reach_fits, dam_fits, tanks_fit, kind_fits, element_fits, down_fits}
 use Rattle.elements.specs.Bounds.{AcceptedElement}
-use Rattle.elements.specs.Kinds.{basin, reach, dam, tanks, by_kind, IsKind}
-use Rattle.elements.proofs.KindLaws.{kind-cases}
+use Rattle.elements.specs.Kinds.{basin, reach, dam, tanks, byte_of, same_kind, by_kind, IsKind}
+use Rattle.elements.proofs.KindLaws.{same-true, kind-cases}
 
 -- what rule 5 asks of each kind
 pub record KindBounds (T : ℕ) (e : Element) : Type 0 where
@@ -35,9 +35,9 @@ module _ (T : ℕ) (e : Element) where
       let r = all_three area runoff (in_range e.rain_noise.0 0 100000000) l.1 in
       record {
         single = λ _. inl k;
-        tanks = λ t. absurd (omega (arith, k, t));
+        tanks = λ t. (let z = sym k ∙ t in absurd (omega (arith, ap byte_of z)));
         lag = λ _. range-bounds _ _ _ l.0;
-        no_lag = λ d. absurd (omega (arith, k, d));
+        no_lag = λ d. (let z = sym k ∙ d in absurd (omega (arith, ap byte_of z)));
         area = (range-bounds _ _ _ r.0).1;
         runoff = (range-bounds _ _ _ r.1.0).1;
         rain_noise = (range-bounds _ _ _ r.1.1).1;
@@ -56,9 +56,9 @@ module _ (T : ℕ) (e : Element) where
       let r = no-rain l.1 in
       record {
         single = λ _. inr (inl k);
-        tanks = λ t. absurd (omega (arith, k, t));
+        tanks = λ t. (let z = sym k ∙ t in absurd (omega (arith, ap byte_of z)));
         lag = λ _. range-bounds _ _ _ l.0;
-        no_lag = λ d. absurd (omega (arith, k, d));
+        no_lag = λ d. (let z = sym k ∙ d in absurd (omega (arith, ap byte_of z)));
         area = omega (arith, r.0);
         runoff = omega (arith, r.1.0);
         rain_noise = omega (arith, r.1.1);
@@ -71,7 +71,7 @@ module _ (T : ℕ) (e : Element) where
       let r = no-rain l.1 in
       record {
         single = λ _. inr (inr k);
-        tanks = λ t. absurd (omega (arith, k, t));
+        tanks = λ t. (let z = sym k ∙ t in absurd (omega (arith, ap byte_of z)));
         lag = λ n. absurd (n k);
         no_lag = λ _. eqb-true _ _ l.0;
         area = omega (arith, r.0);
@@ -89,7 +89,7 @@ module _ (T : ℕ) (e : Element) where
         single = λ n. absurd (n k);
         tanks = λ _. count;
         lag = λ _. range-bounds _ _ _ l.0;
-        no_lag = λ d. absurd (omega (arith, k, d));
+        no_lag = λ d. (let z = sym k ∙ d in absurd (omega (arith, ap byte_of z)));
         area = omega (arith, eqb-true e.area 0 r.0);
         runoff = omega (arith, count);
         rain_noise = omega (arith, eqb-true e.rain_noise.0 0 r.1.1);
@@ -97,14 +97,14 @@ module _ (T : ℕ) (e : Element) where
 
   pub kind-bounds : kind_fits T e ≡ true → KindBounds T e
   unfolding kind_fits
-  kind-bounds h = go (eqb e.kind tanks) refl h
+  kind-bounds h = go (same_kind e.kind tanks) refl h
     where
       go :
           (x : Bool)
-          → eqb e.kind tanks ≡ x
+          → same_kind e.kind tanks ≡ x
           → cond x (lag_fits T e && tanks_fit e) (by_kind e.kind (lag_fits T e && basin_fits e) (lag_fits T e && reach_fits e) (dam_fits e) false) ≡ true
           → KindBounds T e
-      go true k f = tanks-bounds (eqb-true _ _ k) f
+      go true k f = tanks-bounds (same-true _ _ k) f
       go false k f =
           kind-cases (λ (fits : Bool). fits ≡ true → KindBounds T e) e.kind basin-bounds reach-bounds dam-bounds
           (λ p q r n. absurd (true≢false (sym n))) f
@@ -121,7 +121,7 @@ module _ (n : ℕ) (element : ℕ → Element) (i : ℕ) where
       let d = (element i).down in
       let later = ltb (i + 1) d in
       let most = leb d n in
-      let open-below = not (eqb (element (d - 1)).kind basin) in
+      let open-below = not (same_kind (element (d - 1)).kind basin) in
       ⊎_elim (λ k. let z = eqb-true d 0 k in record { most = omega arith; later = inl z })
       (λ k. let l = all_three later most open-below k in record { most = leb-true _ _ l.1.0; later = inr (ltb-true _ _ l.0) })
       (either (eqb d 0) ((later && most) && open-below) h)

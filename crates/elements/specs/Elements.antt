@@ -1,8 +1,9 @@
 -- Document 01, The table: "Then N elements of 26 bytes, numbered from 1".
-use Rattle.std.specs.Prelude.{ℕ, ◌+◌, ◌*◌, List}
+use Rattle.std.specs.Prelude.{ℕ, ◌+◌, ◌*◌, List, None}
 use Rattle.units.specs.Units.{grains, thousandths}
 use Rattle.fields.specs.Bytes.{byte_at, number16, number32}
 use Rattle.elements.specs.declared.Element.{Element}
+use Rattle.elements.specs.Kinds.{kind_of}
 
 -- element i, counted from 0: "kind (1; 1 basin, 2 reach), down (1; number drained into, 0 for an outlet), lag in minutes (2),
 -- area in 0.01 km² (4), runoff f in thousandths (2), first discharge (4), first variance (4), system noise W (4), rain noise G (4)"
@@ -10,7 +11,7 @@ unfoldable pub element_at : List ℕ → ℕ → Element
 element_at table i =
     let at = 26 * i + 10 in
     record {
-      kind = byte_at table at;
+      kind = kind_of (byte_at table at);
       down = byte_at table (at + 1);
       lag = number16 table (at + 2);
       area = number32 table (at + 4);
@@ -25,7 +26,7 @@ element_at table i =
 abbrev pub no_element : Element
 no_element =
     record {
-      kind = 0;
+      kind = None;
       down = 0;
       lag = 0;
       area = 0;

@@ -3,7 +3,7 @@ use Rattle.std.specs.Prelude.{ℕ, ◌+◌, ◌-◌, Bool, false, not, ◌&&◌,
 use Rattle.units.specs.Units.{C}
 use Rattle.fields.specs.Ranges.{in_range}
 use Rattle.elements.specs.declared.Element.{Element}
-use Rattle.elements.specs.Kinds.{basin, tanks, by_kind}
+use Rattle.elements.specs.Kinds.{basin, tanks, same_kind, by_kind}
 
 -- 5: "An element's kind or any field but down is out of range."
 -- "Lag from T to 60,000."
@@ -30,7 +30,7 @@ tanks_fit e = (eqb e.area 0 && in_range e.runoff 2 8) && eqb e.rain_noise.0 0
 -- is refused
 unfoldable pub kind_fits : ℕ → Element → Bool
 kind_fits T e =
-    cond (eqb e.kind tanks) (lag_fits T e && tanks_fit e)
+    cond (same_kind e.kind tanks) (lag_fits T e && tanks_fit e)
     (by_kind e.kind (lag_fits T e && basin_fits e) (lag_fits T e && reach_fits e) (dam_fits e) false)
 
 -- "W 0 to 100,000,000." "First values 0 to C."
@@ -43,4 +43,4 @@ element_fits T e =
 unfoldable pub down_fits : ℕ → (ℕ → Element) → ℕ → Bool
 down_fits n element i =
     let down = (element i).down in
-    eqb down 0 || ((ltb (i + 1) down && leb down n) && not (eqb (element (down - 1)).kind basin))
+    eqb down 0 || ((ltb (i + 1) down && leb down n) && not (same_kind (element (down - 1)).kind basin))

@@ -26,7 +26,7 @@ use Rattle.method.specs.Routing.{routed, variance_numbers, routing_numbers}
 use Rattle.method.specs.Correction.{corrected, correction_numbers}
 use Rattle.fields.proofs.RangeLaws.{all-below}
 use Rattle.elements.specs.declared.Element.{Element}
-use Rattle.elements.specs.Kinds.{basin, tanks, by_kind, IsKind}
+use Rattle.elements.specs.Kinds.{basin, tanks, by_kind, IsKind, same_kind}
 use Rattle.elements.proofs.KindLaws.{kind-cases, kind-both, no_other}
 use Rattle.table.specs.Tables.{TableValues}
 use Rattle.table.specs.Bounds.{TableBounds}
@@ -62,6 +62,7 @@ use Rattle.network.proofs.NumbersLaws.{element-part}
 use Rattle.network.proofs.StepLaws.{stepped-length, stepped-elements, stepped-steps, stepped-figures, stepped-rains}
 use Rattle.entries.specs.Entries.{step_rules, step_on_answer}
 use Rattle.entries.proofs.CellRules.{cells-kept}
+use Rattle.elements.specs.declared.Kind.{Kind}
 
 -- ---- the figures
 
@@ -139,17 +140,17 @@ unfolding rains_fit
 rains-fit r h = rw (le-leb _ _ h.first, le-leb _ _ h.second, le-leb _ _ h.third)
 
 place-fits :
-    (kind : ℕ) (p : ElementState)
+    (kind : Option Kind) (p : ElementState)
     → (kind ≢ tanks → IsKind kind)
     → FiguresFit p.figures
     → (kind ≡ basin → RainsUnder p.rains)
     → place_fits kind p ≡ true
 unfolding place_fits
-place-fits kind p single f r = go (eqb kind tanks) refl
+place-fits kind p single f r = go (same_kind kind tanks) refl
   where
     go :
         (x : Bool)
-        → eqb kind tanks ≡ x
+        → same_kind kind tanks ≡ x
         → cond x (figures_fit p.figures) (by_kind kind (figures_fit p.figures && rains_fit p.rains) (figures_fit p.figures) (figures_fit p.figures) false) ≡ true
     go true k = figures-fit _ f
     go false k =

@@ -30,13 +30,15 @@ use Rattle.exact_run.specs.ExactRun.{exact_started, exact_stepped}
 use Rattle.exact_run.proofs.StepNear.{step-near}
 use Rattle.exact_run.proofs.RecordNear.{observation-near, own-near}
 use Rattle.exact_run.proofs.ForecastNear.{Agrees}
+use Rattle.std.specs.Prelude.{Option}
+use Rattle.elements.specs.declared.Kind.{Kind}
 
 -- figures known by another name
 follows-as : {f g : Figures} {x : ExactFigures} → f ≡ g → Follows g x → Follows f x
 follows-as {f} {g} {x} e h = subst (λ (y : Figures). Follows y x) (sym e) h
 
 -- the rains of a basin after a step
-basin-rains : (kind rain : ℕ) (r : Rains) → kind ≡ basin → rains_after kind rain r ≡ shifted_rains rain r
+basin-rains : (kind : Option Kind) (rain : ℕ) (r : Rains) → kind ≡ basin → rains_after kind rain r ≡ shifted_rains rain r
 unfolding rains_after
 basin-rains kind rain r k = by-basin kind _ _ _ _ k
 

@@ -16,6 +16,7 @@ use Rattle.table.specs.Tables.{TableValues}
 use Rattle.record.specs.Records.{reading_at, at_element, input_rain, input_release}
 use Rattle.walk.specs.Walk.{new_cell}
 use Rattle.network.specs.Step.{network_down}
+use Rattle.elements.specs.declared.Kind.{Kind}
 
 -- what a gauge observes: nothing, or the unrounded discharge and the noise
 pub data ExactObservation : Type 0 where
@@ -44,7 +45,7 @@ unfoldable pub exact_released : Element → Fraction → ExactFigures
 exact_released e release = record { discharge = release; variance = whole e.system_noise.0 }
 
 -- a basin has the inflow from its rain, a dam what it lets out
-unfoldable pub exact_own_of : ℕ → ExactFigures → ExactFigures → ExactFigures
+unfoldable pub exact_own_of : Option Kind → ExactFigures → ExactFigures → ExactFigures
 exact_own_of kind inflow let_out = by_kind kind inflow exact_nothing let_out exact_nothing
 
 unfoldable pub exact_own : TableValues → List ℕ → ℕ → ExactFigures

@@ -8,7 +8,7 @@ ghost use Rattle.table.specs.InUse.{table_in};
 ghost use Rattle.state.specs.States.{changed, figures_put};
 ghost use Rattle.state.specs.Start.{first_figures, first_put, started};
 
-use elements::{Element, element_at, extra_of};
+use elements::{Element, Kind, element_at, extra_of};
 use method::Figures;
 use sizes::STATE_NUMBERS;
 use state::{Rains, put_figures, put_rains};
@@ -36,7 +36,7 @@ fn put_first(state: &mut [u64; STATE_NUMBERS], i: usize, e: Element)
     let kind = e.kind;
     put_figures(&mut *state, i, first_figures(e));
     match kind {
-        elements::BASIN => {
+        Some(Kind::Basin) => {
             let dry = Rains {
                 first: 0,
                 second: 0,
@@ -44,8 +44,7 @@ fn put_first(state: &mut [u64; STATE_NUMBERS], i: usize, e: Element)
             };
             put_rains(&mut *state, i, dry);
         }
-        elements::REACH | elements::DAM | elements::TANKS => {}
-        _ => {}
+        Some(Kind::Reach | Kind::Dam | Kind::Tanks) | None => {}
     }
 }
 

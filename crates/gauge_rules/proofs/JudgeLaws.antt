@@ -11,6 +11,8 @@ use Rattle.elements.specs.declared.Element.{Element}
 use Rattle.elements.specs.Kinds.{dam}
 use Rattle.gauges.specs.declared.Gauge.{Gauge}
 use Rattle.gauges.specs.Rules.{element_before, curve_fits, not_on_dam, beta_fits, gauge_fits}
+use Rattle.std.specs.Prelude.{Option}
+use Rattle.elements.specs.declared.Kind.{Kind}
 
 -- the element of gauge g and that of the gauge before it
 module _
@@ -25,7 +27,7 @@ module _
     unfolding gauge_fits
     too-late m = rw (← a, ← e, lt-ltb _ _ after, lt-leb _ _ m)
 
-    module _ (there : number ≤ n) {kind : ℕ} (k : kind ≡ (element (number - 1)).kind) where
+    module _ (there : number ≤ n) {kind : Option Kind} (k : kind ≡ (element (number - 1)).kind) where
       pub on-dam : kind ≡ dam → false ≡ gauge_fits n element gauge g
       unfolding gauge_fits not_on_dam
       on-dam d = rw (← a, ← e, lt-ltb _ _ after, le-leb _ _ there, ← k, eq-eqb _ _ d)

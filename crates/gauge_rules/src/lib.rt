@@ -11,7 +11,7 @@ ghost use Rattle.gauges.specs.Rules.{gauge_fits};
 ghost use Rattle.gauge_rules.specs.Judged.{GaugeAfter};
 
 use curve_rules::curve_fits;
-use elements::kind_at;
+use elements::{Kind, kind_at};
 use fields::bytes::{whole32, wide};
 use fields::range::in_range;
 use gauges::{beta_at, element_of, place_of};
@@ -30,8 +30,7 @@ fn gauge_fits(table: &[u8], n: usize, g: usize, above: usize) -> bool
     if n < element {
         return false;
     }
-    let kind = kind_at(table, element - 1);
-    if kind == elements::DAM {
+    if let Some(Kind::Dam) = kind_at(table, element - 1) {
         return false;
     }
     if !in_range(whole32(table, at + 2), 1, Variance::CEILING) {

@@ -8,7 +8,7 @@ use Rattle.rating.specs.declared.Curve.{Curve}
 use Rattle.rating.specs.Rating.{no_piece}
 use Rattle.fields.specs.Ranges.{in_range, all_below}
 use Rattle.elements.specs.declared.Element.{Element}
-use Rattle.elements.specs.Kinds.{dam}
+use Rattle.elements.specs.Kinds.{dam, same_kind}
 use Rattle.gauges.specs.declared.Gauge.{Gauge}
 
 -- 7: "A gauge field is out of range or out of order."
@@ -54,7 +54,7 @@ element_before gauge (suc g) = (gauge g).element
 
 -- M-100: "rule 7 refuses a gauge on one", a dam
 unfoldable pub not_on_dam : (ℕ → Element) → Gauge → Bool
-not_on_dam element gauge = not (eqb (element (gauge.element - 1)).kind dam)
+not_on_dam element gauge = not (same_kind (element (gauge.element - 1)).kind dam)
 
 -- M-105: "β in thousandths, 0 to 500"
 unfoldable pub beta_fits : Gauge → Bool

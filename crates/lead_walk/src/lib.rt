@@ -7,6 +7,7 @@ ghost use Rattle.one_lead.specs.Worked.{tank_input};
 ghost use Rattle.lead_walk.specs.Worked.{LeadsReady, TankReady, LeadsDone, ElementWorked};
 
 use rating::RatedReading;
+use elements::Kind;
 use method::Figures;
 use one_lead::{ElementInput, Lead, hold_lead, tank_lead, work_lead};
 use refusal::Refusal;
@@ -69,7 +70,7 @@ pub fn work_element(
     ensures { ElementWorked result input first here below leads space.old space.new }
 {
     let element = input.element;
-    if element.kind == elements::DAM {
+    if let Some(Kind::Dam) = element.kind {
         hold_dam(input, first, here, below, leads, space);
         return Ok(());
     }

@@ -1,5 +1,5 @@
 -- What the leads of one element are worked out from.
-use Rattle.std.specs.Prelude.{None}
+use Rattle.std.specs.Prelude.{None, Option}
 use Prim.Native.Nat.{ℕ, suc, ◌+◌, ◌≤◌, ◌<◌}
 use mathlib.Core.List.{List}
 use mathlib.Core.Logic.{◌≢◌}
@@ -14,7 +14,7 @@ use Rattle.inflow.specs.Basin.{basin_inflow}
 use Rattle.elements.specs.declared.Element.{Element}
 use Rattle.elements.specs.Elements.{element_at}
 use Rattle.elements.specs.Kinds.{basin, tanks, by_kind}
-use Rattle.elements.proofs.KindLaws.{by-basin, by-dam, kind-both}
+use Rattle.elements.proofs.KindLaws.{by-basin, by-dam, kind-both, eq-same, ne-same}
 use Rattle.table.specs.Tables.{TableValues}
 use Rattle.table.specs.Bounds.{AcceptedTable}
 use Rattle.table.specs.InUse.{table_in}
@@ -38,6 +38,7 @@ use Rattle.element_weights.specs.Weights.{element_weight}
 use Rattle.tank_walk.specs.Rows.{IsLast, own_row}
 use Rattle.lead_walk.proofs.NetworkLaws.{InputOf}
 use Rattle.network_leads.specs.Inputs.{input_of, own_number, lead_input}
+use Rattle.elements.specs.declared.Kind.{Kind}
 
 -- ---- an element in use, and its last cell
 
@@ -48,7 +49,7 @@ module _ (t : TableValues) (i : ℕ) (l : i < t.elements) where
   -- one that is no tanks is its own cell, but for where it drains
   pub single-is : (t.element i).kind ≢ tanks → (cells t).element (last_cell t i) ≡ draining_into (t.element i) (inlet_of t (t.element i).down)
   unfolding last_of
-  single-is n = cell-is ∙ rw (ne_eqb (t.element i).kind tanks n)
+  single-is n = cell-is ∙ rw (ne-same (t.element i).kind tanks n)
 
 module _ (bytes : List ℕ) (t : AcceptedTable bytes) {i : ℕ} (l : i < (table_in bytes).elements) where
   element-in-range : (element_at bytes i).kind ≢ tanks → ElementInRange (element_at bytes i)
@@ -62,7 +63,7 @@ module _ (bytes : List ℕ) (t : AcceptedTable bytes) {i : ℕ} (l : i < (table_
 
   -- a basin's rains are in their range
   pub basin-rains :
-      (s : State) {kind : ℕ}
+      (s : State) {kind : Option Kind}
       → StateBounds (table_in bytes) s
       → kind ≡ (element_at bytes i).kind
       → kind ≡ basin
@@ -165,7 +166,7 @@ module _ (bytes : List ℕ) (s : State) (i : ℕ) (used : i < (table_in bytes).e
 module _ (t : TableValues) (s : State) (i : ℕ) (used : i < t.elements) (k : (t.element i).kind ≡ tanks) where
   last-tank : (cells t).element (last_cell t i) ≡ tank_of (t.element i) (inlet_of t (t.element i).down)
   unfolding last_of
-  last-tank = cell-is t i used ∙ rw (eq-eqb (t.element i).kind tanks k)
+  last-tank = cell-is t i used ∙ rw (eq-same (t.element i).kind tanks k)
 
   tank-kind : (noise : ℕ) → (tank_element noise).kind ≡ ((cells t).element (last_cell t i)).kind
   unfolding tank_of

@@ -51,6 +51,7 @@ use Rattle.network_leads.specs.Worked.{Given, spare_rows, space_size, LeadsSoFar
 use Rattle.network_leads.proofs.InputLaws.{figures-fit, last-tank-input}
 use Rattle.network_leads.proofs.WorkLaws.{space-most, places-apart, worked-first, first-stays, tanks-stay}
 use Rattle.network_leads.proofs.TurnLaws.{first-is, passes, row-there}
+use Rattle.elements.proofs.KindLaws.{eq-same}
 
 -- as the code has it once the figures f of its last are put
 module _
@@ -73,7 +74,7 @@ module _
   -- how many tanks stand above the last
   extra-is : extra ≡ (t.element i).runoff - 1
   unfolding extra_tanks
-  extra-is = rw (eq-eqb (t.element i).kind tanks g.kind)
+  extra-is = rw (eq-same (t.element i).kind tanks g.kind)
 
   pub some : (0 < extra) × (extra ≤ 7)
   some = let b = bounds.tanks g.kind in (omega (arith, b, extra-is), omega (arith, b, extra-is))
@@ -304,7 +305,7 @@ module _
   unfolding extra_tanks
   next-tanks {e = e} is read =
       let kind : (element_at bytes i).kind ≡ tanks = sym (ap (λ (y : Element). y.kind) (element-read bytes i next.used)) ∙ next.kind in
-      let own : e ≡ extra_tanks (element_at bytes i) = read ∙ rw (eq-eqb (element_at bytes i).kind tanks kind) in
+      let own : e ≡ extra_tanks (element_at bytes i) = read ∙ rw (eq-same (element_at bytes i).kind tanks kind) in
       omega (arith, is, next.single, extra-read bytes i next.used own)
 
   pub next-few : {x e : ℕ} → x ≡ n + extra_before (table_in bytes) from → e ≡ (element_at bytes i).runoff - 1 → x + e ≤ most_places

@@ -48,6 +48,7 @@ use Rattle.network_leads.specs.Inputs.{lead_input}
 use Rattle.network_leads.specs.Worked.{Given, spare_rows, space_size, LeadsSoFar}
 use Rattle.network_leads.proofs.InputLaws.{figures-fit, input-in-range, input-of}
 use Rattle.network_leads.proofs.WorkLaws.{space-most, all_room, places-apart, worked-first, first-stays}
+use Rattle.elements.proofs.KindLaws.{ne-same}
 
 pub first-is : (t : TableValues) (s : State) (i : ℕ) (f : Figures) → i < t.elements → f ≡ figures_of s i → f ≡ lead_figures t s 0 (last_cell t i)
 unfolding lead_figures
@@ -135,7 +136,7 @@ module _ {bytes : List ℕ} {n L : ℕ} {weight : List ℕ} {s : State} (g : Giv
 
     no_extra : extra_tanks (t.element i) ≡ 0
     unfolding extra_tanks
-    no_extra = rw (element-read bytes i used, ne_eqb (element_at bytes i).kind tanks h.single)
+    no_extra = rw (element-read bytes i used, ne-same (element_at bytes i).kind tanks h.single)
 
     pub no_more : extra_before t (i + 1) ≡ extra_before t i
     no_more = omega (arith, extra-more t i refl refl, no_extra)

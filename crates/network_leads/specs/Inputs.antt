@@ -1,5 +1,5 @@
 -- Serves the code: what the leads of one element are worked out from.
-use Rattle.std.specs.Prelude.{ℕ, ◌≤◌, ◌<◌, List, ◌≡◌, length, None}
+use Rattle.std.specs.Prelude.{ℕ, ◌≤◌, ◌<◌, List, ◌≡◌, length, None, Option}
 use Rattle.method.specs.Inflow.{mean_rain_inflow}
 use Rattle.elements.specs.declared.Element.{Element}
 use Rattle.elements.specs.Elements.{element_at}
@@ -10,9 +10,10 @@ use Rattle.state.specs.States.{State, figures_of, rains_of}
 use Rattle.state.specs.Bounds.{StateBounds}
 use Rattle.one_lead.specs.declared.ElementInput.{ElementInput}
 use Rattle.network.specs.Forecast.{rain_sum}
+use Rattle.elements.specs.declared.Kind.{Kind}
 
 -- what the code of it relies on, of an element, its kind, numbers with its weight, and a count of rains
-pub record InputReady (bytes : List ℕ) (s : State) (i kind : ℕ) (weight : List ℕ) (count : ℕ) : Type 0 where
+pub record InputReady (bytes : List ℕ) (s : State) (i : ℕ) (kind : Option Kind) (weight : List ℕ) (count : ℕ) : Type 0 where
   pub table : AcceptedTable bytes
   pub used : i < (table_in bytes).elements
   pub is : kind ≡ (element_at bytes i).kind

@@ -9,7 +9,7 @@ ghost use Rattle.network_leads.specs.Inputs.{InputReady, input_of, lead_input};
 ghost use Rattle.network_leads.specs.Worked.{Given, Cleared, RunReady, RunWorked, TanksReady, TanksDone, LeadsWorked};
 
 use answer_space::put_figures;
-use elements::{Element, down_at, element_at, extra_at, kind_at, noise_at};
+use elements::{Element, Kind, down_at, element_at, extra_at, kind_at, noise_at};
 use inflow::mean_rain_inflow;
 use lead_walk::{store_tank, work_element};
 use one_lead::ElementInput;
@@ -37,7 +37,7 @@ fn input_of(element: Element, weight: u64, own: u64) -> ElementInput
 fn lead_input(
     table: &[u8],
     i: usize,
-    kind: u64,
+    kind: Option<Kind>,
     weights: &[u64],
     count: u64,
     state: &[u64; STATE_NUMBERS],
@@ -46,7 +46,7 @@ fn lead_input(
     ensures { result ≡ lead_input (element_at table.now i) (get_or weights.now i 0) count state.now i }
 {
     match kind {
-        elements::BASIN => {
+        Some(Kind::Basin) => {
             let sum = sum_of(state, i, count);
             let element = element_at(table, i);
             input_of(
@@ -55,8 +55,8 @@ fn lead_input(
                 mean_rain_inflow(sum, count, element.area, element.runoff),
             )
         }
-        elements::REACH => input_of(element_at(table, i), weights[i], 0),
-        elements::DAM => {
+        Some(Kind::Reach) => input_of(element_at(table, i), weights[i], 0),
+        Some(Kind::Dam) => {
             let held = discharge_of(state, i);
             input_of(element_at(table, i), weights[i], held.0)
         }
@@ -83,7 +83,7 @@ fn work_run(
     let steps = state[1];
     let count = rain_count(steps);
     for i in from..n {
-        if kind_at(table, i) == elements::TANKS {
+        if let Some(Kind::Tanks) = kind_at(table, i) {
             return Ok(Some(i));
         }
         let first = figures_of(state, i);

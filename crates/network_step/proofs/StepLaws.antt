@@ -26,7 +26,7 @@ use Rattle.inflow.specs.Basin.{basin_inflow}
 use Rattle.elements.specs.declared.Element.{Element}
 use Rattle.elements.specs.Elements.{element_at}
 use Rattle.elements.specs.Kinds.{basin, dam, tanks, by_kind, basin_of, dam_of, extra_tanks}
-use Rattle.elements.proofs.KindLaws.{by-basin, by-dam, kind-both, none-counts}
+use Rattle.elements.proofs.KindLaws.{by-basin, by-dam, kind-both, none-counts, eq-same, ne-same}
 use Rattle.table.specs.Tables.{TableValues}
 use Rattle.table.specs.Bounds.{AcceptedBounds, AcceptedTable}
 use Rattle.table.specs.InUse.{table_in}
@@ -72,6 +72,7 @@ use Rattle.network_step.specs.declared.Reached.{Reached}
 use Rattle.network_step.specs.declared.RunEnd.{RunEnd}
 use Rattle.network_step.specs.declared.RunEnd.TheVariants.{Tanks}
 use Rattle.network_step.specs.Held.{
+use Rattle.elements.specs.declared.Kind.{Kind}
   place_count,
   Cleared,
   OldReady,
@@ -111,7 +112,7 @@ own_same e rain release lead l =
 -- what the code makes of element i, of whatever kind: its own number, and the counts
 module _ (table bytes : List ℕ) (i weight b : ℕ) (passed : Passed) (o : Option RatedReading) where
   pub input-made :
-      {e : Element} {own basins dams : ℕ} {x : ElementInput} {r : StepInput} {kind : ℕ}
+      {e : Element} {own basins dams : ℕ} {x : ElementInput} {r : StepInput} {kind : Option Kind}
       → kind ≡ (element_at table i).kind
       → e ≡ element_at table i
       → own ≡ own_number (element_at table i) bytes b passed
@@ -129,7 +130,7 @@ module _ (t : TableValues) where
   passed_none = record { basins = count_none basin_of t; dams = count_none dam_of t }
 
   pub passed-more :
-      (i : ℕ) {kind : ℕ} {passed next : Passed}
+      (i : ℕ) {kind : Option Kind} {passed next : Passed}
       → PassedBefore t i passed
       → kind ≡ (t.element i).kind
       → next ≡ passed_by kind passed
@@ -170,18 +171,18 @@ module _ (t : TableValues) (i : ℕ) (used : i < t.elements) where
   -- the last cell of an element that is one cell, and of one of tanks
   one_cell : (t.element i).kind ≢ tanks → (cells t).element (last_cell t i) ≡ draining_into (t.element i) (inlet_of t (t.element i).down)
   unfolding last_of
-  one_cell n = cell-used t (last_cell t i) (last-most t i used) ∙ (last-cell t i used ∙ rw (ne_eqb (t.element i).kind tanks n))
+  one_cell n = cell-used t (last_cell t i) (last-most t i used) ∙ (last-cell t i used ∙ rw (ne-same (t.element i).kind tanks n))
 
   last-tank : (t.element i).kind ≡ tanks → (cells t).element (last_cell t i) ≡ tank_of (t.element i) (inlet_of t (t.element i).down)
   unfolding last_of
-  last-tank k = cell-used t (last_cell t i) (last-most t i used) ∙ (last-cell t i used ∙ rw (eq-eqb (t.element i).kind tanks k))
+  last-tank k = cell-used t (last_cell t i) (last-most t i used) ∙ (last-cell t i used ∙ rw (eq-same (t.element i).kind tanks k))
 
   inner-tank : (c : ℕ) → CellIn t i c → c < last_cell t i → (cells t).element c ≡ tank_of (t.element i) (c + 2)
   inner-tank c h less = cell-used t c (omega (arith, less, last-most t i used)) ∙ inner-cell t h less
 
   pub no_extra : (t.element i).kind ≢ tanks → extra_tanks (t.element i) ≡ 0
   unfolding extra_tanks
-  no_extra n = rw (ne_eqb (t.element i).kind tanks n)
+  no_extra n = rw (ne-same (t.element i).kind tanks n)
 
 module _ (table bytes : List ℕ) (s : State) where
   abbrev t : TableValues

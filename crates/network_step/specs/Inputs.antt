@@ -9,6 +9,7 @@ use Rattle.record.specs.Records.{rain_at, release_at}
 use Rattle.one_lead.specs.declared.ElementInput.{ElementInput}
 use Rattle.network_step.specs.declared.Passed.{Passed}
 use Rattle.network_step.specs.declared.StepInput.{StepInput}
+use Rattle.elements.specs.declared.Kind.{Kind}
 
 -- an element with its weight, its own number, lead 0, and what its gauge observed
 unfoldable pub input_of : Element → ℕ → ℕ → Option RatedReading → ElementInput
@@ -20,7 +21,7 @@ own_number e bytes b passed =
     by_kind e.kind (mean_rain_inflow (rain_at bytes passed.basins) 1 e.area e.runoff) 0 (release_at bytes b passed.dams) 0
 
 -- basins and dams with one element more
-unfoldable pub passed_by : ℕ → Passed → Passed
+unfoldable pub passed_by : Option Kind → Passed → Passed
 passed_by kind passed = record { basins = passed.basins + basin_of kind; dams = passed.dams + dam_of kind }
 
 -- element i, by the bytes of the table and of the record

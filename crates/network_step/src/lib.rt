@@ -12,7 +12,7 @@ ghost use Rattle.network_step.specs.Held.{StepReady, place_count, Cleared, OldRe
 
 use rating::RatedReading;
 use answer_space::add_figures;
-use elements::{Element, down_at, element_at, extra_at, kind_at, noise_at};
+use elements::{Element, Kind, down_at, element_at, extra_at, kind_at, noise_at};
 use inflow::{mean_rain_inflow, old_outflow};
 use lead_walk::store_tank;
 use one_lead::ElementInput;
@@ -77,18 +77,18 @@ fn step_input(
     let basins = passed.basins;
     let dams = passed.dams;
     match kind {
-        elements::BASIN => {
+        Some(Kind::Basin) => {
             let rain = rain_at(bytes, basins);
             let element = element_at(table, i);
             let inflow = mean_rain_inflow(rain, 1, element.area, element.runoff);
             let input = input_of(element, weight, inflow, observation);
             step_input_of(input, basins + 1, dams)
         }
-        elements::REACH => {
+        Some(Kind::Reach) => {
             let input = input_of(element_at(table, i), weight, 0, observation);
             step_input_of(input, basins, dams)
         }
-        elements::DAM => {
+        Some(Kind::Dam) => {
             let release = release_at(bytes, b, dams);
             let input = input_of(element_at(table, i), weight, release, observation);
             step_input_of(input, basins, dams + 1)
@@ -164,7 +164,7 @@ fn work_run(
     for i in first..n {
         let here = gauge_here(table, n, m, g, i);
         let observation = observation_here(observed, here, g);
-        if kind_at(table, i) == elements::TANKS {
+        if let Some(Kind::Tanks) = kind_at(table, i) {
             return Ok(Some(reached_at(i, from.tank, passed, g)));
         }
         add_old_outflow(table, i, state, &mut *space);

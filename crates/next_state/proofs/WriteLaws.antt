@@ -28,6 +28,8 @@ use Rattle.network.specs.Step.{step_put, stepped}
 use Rattle.network.proofs.StepLaws.{step-puts}
 use Rattle.answer_space.specs.Places.{figures_at}
 use Rattle.next_state.specs.Written.{FiguresHeld, TanksWritten, ElementsWritten, element_put}
+use Rattle.std.specs.Prelude.{Option}
+use Rattle.elements.specs.declared.Kind.{Kind}
 
 -- ---- the loop over the elements
 
@@ -49,7 +51,7 @@ module _ (table bytes space : List ℕ) (s : State) where
       ap (λ (p : ElementState). p.rains) (changed-later _ change element-changes s i i (λ j l e. omega (arith, e, l)))
 
   pub written-again :
-      (i : ℕ) {kind b : ℕ} {x : Figures} {now next : State}
+      (i : ℕ) {kind : Option Kind} {b : ℕ} {x : Figures} {now next : State}
       → i < t.elements
       → now ≡ changed change i s
       → kind ≡ (element_at table i).kind

@@ -11,7 +11,7 @@ ghost use Rattle.next_state.specs.Written.{TanksReady, TanksWritten, WriteReady,
 
 use answer_space::figures_at;
 use element_step::shifted_rains;
-use elements::{basin_of, kind_at};
+use elements::{Kind, basin_of, kind_at};
 use method::Figures;
 use record::rain_at;
 use sizes::STATE_NUMBERS;
@@ -21,7 +21,7 @@ use state::{put_figures, put_rains, rains_of};
 fn put_step(
     state: &mut [u64; STATE_NUMBERS],
     i: usize,
-    kind: u64,
+    kind: Option<Kind>,
     figures: Figures,
     bytes: &[u8],
     b: usize,
@@ -30,15 +30,12 @@ fn put_step(
     ensures { state.new ≡ put_place kind figures (shifted_rains (rain_at bytes.now b) (rains_of state.old i)) i state.old }
 {
     match kind {
-        elements::BASIN => {
+        Some(Kind::Basin) => {
             let rains = shifted_rains(rain_at(bytes, b), rains_of(&*state, i));
             put_figures(&mut *state, i, figures);
             put_rains(&mut *state, i, rains);
         }
-        elements::REACH | elements::DAM | elements::TANKS => {
-            put_figures(&mut *state, i, figures);
-        }
-        _ => {
+        Some(Kind::Reach | Kind::Dam | Kind::Tanks) | None => {
             put_figures(&mut *state, i, figures);
         }
     }

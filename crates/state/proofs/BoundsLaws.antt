@@ -12,8 +12,8 @@ use Rattle.method.specs.declared.Figures.{Figures}
 use Rattle.method.specs.Figures.{FiguresFit}
 use Rattle.fields.proofs.RangeLaws.{both, all_three, all-four, all-at}
 use Rattle.elements.specs.declared.Element.{Element}
-use Rattle.elements.specs.Kinds.{basin, reach, dam, tanks, by_kind}
-use Rattle.elements.proofs.KindLaws.{by-basin, by-reach, by-dam, by-none, kind-cases}
+use Rattle.elements.specs.Kinds.{basin, reach, dam, tanks, by_kind, same_kind}
+use Rattle.elements.proofs.KindLaws.{by-basin, by-reach, by-dam, by-none, kind-cases, ne-same}
 use Rattle.table.specs.Tables.{TableValues}
 use Rattle.table.specs.KindCounts.{extra_count}
 use Rattle.cells.specs.Cells.{cell_at, cells}
@@ -22,6 +22,8 @@ use Rattle.state.specs.declared.Rains.{Rains}
 use Rattle.state.specs.States.{State, ElementState, elements_of, steps_of, figures_of, cell_figures, cell_rains, place_of}
 use Rattle.state.specs.Rules.{figures_fit, rains_fit, place_fits, elements_fit, tanks_fit, state_fits}
 use Rattle.state.specs.Bounds.{RainsUnder, StateBounds}
+use Rattle.std.specs.Prelude.{Option}
+use Rattle.elements.specs.declared.Kind.{Kind}
 
 figures-under : (f : Figures) → figures_fit f ≡ true → FiguresFit f
 unfolding figures_fit
@@ -41,14 +43,14 @@ rains-under r k =
     record { first = leb-true _ _ a.0; second = leb-true _ _ a.1.0; third = leb-true _ _ a.1.1 }
 
 -- of one place
-module _ (kind : ℕ) (p : ElementState) where
+module _ (kind : Option Kind) (p : ElementState) where
   -- one that is no tanks
   one_place :
       kind ≢ tanks
       → place_fits kind p
       ≡ by_kind kind (figures_fit p.figures && rains_fit p.rains) (figures_fit p.figures) (figures_fit p.figures) false
   unfolding place_fits
-  one_place n = rw (ne_eqb kind tanks n)
+  one_place n = rw (ne-same kind tanks n)
 
   pub basin-place : kind ≡ basin → place_fits kind p ≡ (figures_fit p.figures && rains_fit p.rains)
   basin-place k = one_place (λ t. omega (arith, k, t)) ∙ by-basin kind _ _ _ _ k
@@ -77,7 +79,7 @@ module _ (kind : ℕ) (p : ElementState) where
 
   pub no-figures-fit : figures_fit p.figures ≡ false → place_fits kind p ≡ false
   unfolding place_fits
-  no-figures-fit f = rw f (go (eqb kind tanks))
+  no-figures-fit f = rw f (go (same_kind kind tanks))
     where
       go : (x : Bool) → cond x false (by_kind kind false false false false) ≡ false
       go true = refl

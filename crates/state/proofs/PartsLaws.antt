@@ -49,6 +49,8 @@ use Rattle.state.specs.States.{
   no_rains,
 }
 use Rattle.state.proofs.StateLaws.{
+use Rattle.std.specs.Prelude.{Option}
+use Rattle.elements.specs.declared.Kind.{Kind}
   PutsAt,
   PutsPlaces,
   puts-each,
@@ -111,7 +113,7 @@ unfolding place_of
 place_is s i p q = rw (p, q)
 
 place-put :
-    (kind : ℕ) (f : Figures) (r : Rains) (i : ℕ) (s : State)
+    (kind : Option Kind) (f : Figures) (r : Rains) (i : ℕ) (s : State)
     → place_start i + 6 < length s
     → place_of (put_place kind f r i s) i ≡ place_put kind f r (place_of s i)
 unfolding put_place place_put place_of
@@ -133,7 +135,7 @@ unfolding place_put by_kind
 tank-put k a b d z e h = rw (e, h)
 
 module _
-    {place kind : ℕ → ℕ} {f : ℕ → Figures} {r : ℕ → Rains} {change : ℕ → State → State}
+    {place : ℕ → ℕ} {kind : ℕ → Option Kind} {f : ℕ → Figures} {r : ℕ → Rains} {change : ℕ → State → State}
     (puts : PutsAt place kind change f r) where
   put-at :
       (s : State) (n i : ℕ)

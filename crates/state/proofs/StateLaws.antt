@@ -16,7 +16,7 @@ use Rattle.fields.specs.Ranges.{all_below}
 use Rattle.method.specs.declared.Figures.{Figures}
 use Rattle.elements.specs.declared.Element.{Element}
 use Rattle.elements.specs.Elements.{element_at}
-use Rattle.elements.specs.Kinds.{basin, tanks, by_kind, extra_tanks}
+use Rattle.elements.specs.Kinds.{basin, tanks, by_kind, extra_tanks, same_kind}
 use Rattle.elements.proofs.KindLaws.{by-basin, by-tanks, kind-cases}
 use Rattle.table.specs.Tables.{TableValues}
 use Rattle.table.specs.KindCounts.{extra_before, extra_count}
@@ -58,6 +58,8 @@ use Rattle.state.specs.States.{
 }
 use Rattle.state.specs.Rules.{figures_fit, place_fits, elements_fit, tanks_fit, state_fits}
 use Rattle.state.specs.Start.{first_figures, first_put, started}
+use Rattle.std.specs.Prelude.{Option}
+use Rattle.elements.specs.declared.Kind.{Kind}
 
 -- ---- one number changed
 
@@ -262,12 +264,12 @@ head-kept s k v i l = number-apart s k v i (λ m few e. omega (arith, e, l))
 -- ---- a place after a start or a step
 
 -- any other than a basin: its figures alone
-pub other-put : (kind : ℕ) (f : Figures) (r : Rains) (i : ℕ) (s : State) → kind ≢ basin → put_figures s i f ≡ put_place kind f r i s
+pub other-put : (kind : Option Kind) (f : Figures) (r : Rains) (i : ℕ) (s : State) → kind ≢ basin → put_figures s i f ≡ put_place kind f r i s
 unfolding put_place
 other-put kind f r i s n =
     kind-cases (λ (x : State). put_figures s i f ≡ x) kind (λ k. absurd (n k)) (λ _. refl) (λ _. refl) (λ _ _ _. refl)
 
-pub place-changes : (kind : ℕ) (f : Figures) (r : Rains) (i : ℕ) (s : State) → ChangesAt i s (put_place kind f r i s)
+pub place-changes : (kind : Option Kind) (f : Figures) (r : Rains) (i : ℕ) (s : State) → ChangesAt i s (put_place kind f r i s)
 unfolding put_place
 place-changes kind f r i s =
     let c = figures-change s i f in
@@ -277,7 +279,7 @@ place-changes kind f r i s =
 pub place-room : (s : State) (i : ℕ) → length s ≡ state_numbers → i < most_places → place_start i + 6 < length s
 place-room s i full l = omega (arith, full, l)
 
-module _ (kind : ℕ) (f : Figures) (r : Rains) (i : ℕ) (s : State) (room : place_start i + 6 < length s) where
+module _ (kind : Option Kind) (f : Figures) (r : Rains) (i : ℕ) (s : State) (room : place_start i + 6 < length s) where
   abbrev moved : State
   moved = put_figures s i f
 
@@ -296,11 +298,11 @@ module _ (kind : ℕ) (f : Figures) (r : Rains) (i : ℕ) (s : State) (room : pl
   place-rains k = ap (λ (x : State). rains_of x i) (by-basin kind _ _ _ _ k) ∙ rains-put moved i moved-room r
 
 -- change i sets place i to figures and, where it is a basin's, rains
-pub record PutsAt (place kind : ℕ → ℕ) (change : ℕ → State → State) (f : ℕ → Figures) (r : ℕ → Rains) : Type 0 where
+pub record PutsAt (place : ℕ → ℕ) (kind : ℕ → Option Kind) (change : ℕ → State → State) (f : ℕ → Figures) (r : ℕ → Rains) : Type 0 where
   pub at : (i : ℕ) (s : State) → change i s ≡ put_place (kind i) (f i) (r i) (place i) s
 
 pub puts-each :
-    {place kind : ℕ → ℕ} {change : ℕ → State → State} {f : ℕ → Figures} {r : ℕ → Rains} → PutsAt place kind change f r → ChangesEach place change
+    {place : ℕ → ℕ} {kind : ℕ → Option Kind} {change : ℕ → State → State} {f : ℕ → Figures} {r : ℕ → Rains} → PutsAt place kind change f r → ChangesEach place change
 puts-each {place} puts = record { at = λ i s. subst (ChangesAt (place i) s) (sym (puts.at i s)) (place-changes _ _ _ (place i) s) }
 
 -- all places, cell by cell
@@ -394,11 +396,11 @@ figures-put-more f x j s {now} h n = n ∙ changed-again (figures_put f x) j s n
 -- the place of an element's last cell gets what the element's would
 last-put : (t : TableValues) (e : Element) (p : ℕ) (s : State) → first_put (last_of t e) p s ≡ first_put e p s
 unfolding last_of first_put put_place first_figures tank_of draining_into by_kind
-last-put t e p s = go (eqb e.kind tanks) refl
+last-put t e p s = go (same_kind e.kind tanks) refl
   where
     go :
         (x : Bool)
-        → eqb e.kind tanks ≡ x
+        → same_kind e.kind tanks ≡ x
         → let c = cond x (tank_of e (inlet_of t e.down)) (draining_into e (inlet_of t e.down)) in
         put_place c.kind (first_figures c) no_rains p s ≡ put_place e.kind (first_figures e) no_rains p s
     go true k = sym (by-tanks e.kind _ _ _ _ (eqb-true _ _ k))
@@ -501,7 +503,7 @@ module _ (table : List ℕ) (s : State) where
   place_test k = place_fits ((table_in table).element k).kind (place_of s k)
 
   pub place-tested :
-      (i : ℕ) {kind : ℕ} {one : Bool}
+      (i : ℕ) {kind : Option Kind} {one : Bool}
       → i < (table_in table).elements
       → kind ≡ (element_at table i).kind
       → one ≡ place_fits kind (place_of s i)

@@ -1,13 +1,14 @@
 -- Document 01, Numbers for no, 8 and 9, and document 02, M-107.
-use Rattle.std.specs.Prelude.{ℕ, ◌+◌, Bool, false, not, cond, ◌&&◌, leb, eqb}
+use Rattle.std.specs.Prelude.{ℕ, ◌+◌, Bool, false, not, cond, ◌&&◌, leb, eqb, Option}
 use Rattle.units.specs.Units.{C}
 use Rattle.method.specs.declared.Figures.{Figures}
 use Rattle.fields.specs.Ranges.{all_below}
-use Rattle.elements.specs.Kinds.{tanks, by_kind}
+use Rattle.elements.specs.Kinds.{tanks, by_kind, same_kind}
 use Rattle.table.specs.Tables.{TableValues}
 use Rattle.table.specs.KindCounts.{extra_count}
 use Rattle.state.specs.declared.Rains.{Rains}
 use Rattle.state.specs.States.{State, ElementState, elements_of, steps_of, figures_of, place_of}
+use Rattle.elements.specs.declared.Kind.{Kind}
 
 -- "a number above C"
 unfoldable pub figures_fit : Figures → Bool
@@ -21,9 +22,9 @@ rains_fit r = (leb r.first 3000 && leb r.second 3000) && leb r.third 3000
 
 -- the place of an element: "A reach's rain places, if kept, are neither read nor changed."; M-100: a dam's "rain places are as a reach's";
 -- M-107: of tanks it is the last one's
-unfoldable pub place_fits : ℕ → ElementState → Bool
+unfoldable pub place_fits : Option Kind → ElementState → Bool
 place_fits kind p =
-    cond (eqb kind tanks) (figures_fit p.figures)
+    cond (same_kind kind tanks) (figures_fit p.figures)
     (by_kind kind (figures_fit p.figures && rains_fit p.rains) (figures_fit p.figures) (figures_fit p.figures) false)
 
 -- 8: "The state has another N, a step count above 10,000, or, in its first N elements, a number above C or a basin's rain

@@ -1,6 +1,6 @@
 -- Document 01, Forecast: "The state keeps N, the step count, each element's discharge, variance and two margins, and each
 -- basin's last three rains, latest first". It is a list of numbers that the caller lends; these names read and change it.
-use Rattle.std.specs.Prelude.{ℕ, zero, suc, ◌+◌, ◌*◌, List, get_or, set}
+use Rattle.std.specs.Prelude.{ℕ, zero, suc, ◌+◌, ◌*◌, List, get_or, set, Option}
 use Rattle.sizes.specs.Sizes.{place_numbers}
 use Rattle.units.specs.Units.{grains, thousandths}
 use Rattle.method.specs.declared.Figures.{Figures}
@@ -8,6 +8,7 @@ use Rattle.elements.specs.Kinds.{by_kind}
 use Rattle.table.specs.Tables.{TableValues}
 use Rattle.cells.specs.Cells.{cell_place}
 use Rattle.state.specs.declared.Rains.{Rains}
+use Rattle.elements.specs.declared.Kind.{Kind}
 
 abbrev pub State : Type 0
 State = List ℕ
@@ -76,7 +77,7 @@ put_rains s i r =
 
 -- the place of element i after a start or a step: its figures, and a basin's rains; "A reach's rain places, if kept, are neither
 -- read nor changed.", M-100: a dam's "rain places are as a reach's"
-unfoldable pub put_place : ℕ → Figures → Rains → ℕ → State → State
+unfoldable pub put_place : Option Kind → Figures → Rains → ℕ → State → State
 put_place kind f r i s = by_kind kind (put_rains (put_figures s i f) i r) (put_figures s i f) (put_figures s i f) (put_figures s i f)
 
 -- the first n places changed, one after the other; "What it holds beyond its first N elements is neither read nor changed."

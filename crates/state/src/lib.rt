@@ -7,6 +7,7 @@ ghost use Rattle.sizes.specs.Sizes.{most_places, state_numbers};
 ghost use Rattle.state.specs.States.{figures_of, rains_of, place_of, put_figures, put_rains};
 ghost use Rattle.state.specs.Rules.{figures_fit, rains_fit, place_fits, steps_left};
 
+use elements::Kind;
 use method::Figures;
 use sizes::{PLACE_NUMBERS, STATE_NUMBERS};
 use units::{Discharge, Variance};
@@ -114,7 +115,7 @@ fn rains_fit(r: Rains) -> bool
 }
 
 // Rule 8 on the place of element i: the rains of a basin alone are read.
-pub fn place_fits(state: &[u64; STATE_NUMBERS], i: usize, kind: u64) -> bool
+pub fn place_fits(state: &[u64; STATE_NUMBERS], i: usize, kind: Option<Kind>) -> bool
     requires { i < most_places }
     ensures { result ≡ place_fits kind (place_of state.now i) }
 {
@@ -122,9 +123,9 @@ pub fn place_fits(state: &[u64; STATE_NUMBERS], i: usize, kind: u64) -> bool
         return false;
     }
     match kind {
-        elements::BASIN => rains_fit(rains_of(state, i)),
-        elements::REACH | elements::DAM | elements::TANKS => true,
-        _ => false,
+        Some(Kind::Basin) => rains_fit(rains_of(state, i)),
+        Some(Kind::Reach | Kind::Dam | Kind::Tanks) => true,
+        None => false,
     }
 }
 

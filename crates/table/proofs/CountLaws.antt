@@ -12,6 +12,8 @@ use Rattle.table.specs.Tables.{TableValues, table_of}
 use Rattle.table.specs.KindCounts.{count_before, basins_before, dams_before, basin_count, dam_count, extra_before}
 use Rattle.table.specs.InUse.{in_use, table_in}
 use Rattle.table.proofs.InUseLaws.{element-read}
+use Rattle.std.specs.Prelude.{Option}
+use Rattle.elements.specs.declared.Kind.{Kind}
 
 -- by what a kind counts
 module _ (of : ℕ → ℕ) (t : TableValues) where
@@ -21,7 +23,7 @@ module _ (of : ℕ → ℕ) (t : TableValues) where
   count_none = refl
 
   pub count-more :
-      (i : ℕ) {b one kind : ℕ}
+      (i : ℕ) {b one : ℕ} {kind : Option Kind}
       → b ≡ count_before of t i
       → one ≡ of kind
       → kind ≡ (t.element i).kind
@@ -33,7 +35,7 @@ module _ (of : ℕ → ℕ) (t : TableValues) where
   all-counted e h = h ∙ ap (count_before of t) e
 
   -- no more than elements
-  module _ (one : (kind : ℕ) → of kind ≤ 1) where
+  module _ (one : (kind : Option Kind) → of kind ≤ 1) where
     pub count_most : (i : ℕ) → count_before of t i ≤ i
     unfolding count_before
     count_most zero = omega arith

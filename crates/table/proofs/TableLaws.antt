@@ -15,7 +15,7 @@ use Rattle.fields.specs.Ranges.{in_range, all_below}
 use Rattle.fields.proofs.RangeLaws.{all-four, range-bounds, all-at}
 use Rattle.elements.specs.declared.Element.{Element}
 use Rattle.elements.specs.Elements.{element_at}
-use Rattle.elements.specs.Kinds.{tanks, extra_tanks}
+use Rattle.elements.specs.Kinds.{tanks, extra_tanks, same_kind}
 use Rattle.elements.specs.Bounds.{AcceptedElement}
 use Rattle.elements.specs.Rules.{element_fits, down_fits}
 use Rattle.elements.proofs.ElementLaws.{element-bounds}
@@ -116,9 +116,9 @@ counts-bounds t h =
 -- no element has more than seven tanks above its last
 extra-few : (e : Element) → (e.kind ≡ tanks → (2 ≤ e.runoff) × (e.runoff ≤ 8)) → extra_tanks e ≤ 7
 unfolding extra_tanks
-extra-few e h = go (eqb e.kind tanks) refl
+extra-few e h = go (same_kind e.kind tanks) refl
   where
-    go : (x : Bool) → eqb e.kind tanks ≡ x → cond x (e.runoff - 1) 0 ≤ 7
+    go : (x : Bool) → same_kind e.kind tanks ≡ x → cond x (e.runoff - 1) 0 ≤ 7
     go true k = omega (arith, h (eqb-true _ _ k))
     go false k = omega arith
 

@@ -1,11 +1,12 @@
 -- Document 01, The table: "kind (1; 1 basin, 2 reach)"; document 02, M-100: "kind 3, a dam"; M-107: "kind 4 is a reach of 2 to 8 equal tanks".
 -- How many basins and dams a table has, and how many tanks above the last of their elements.
-use Rattle.std.specs.Prelude.{ℕ, zero, suc, ◌+◌}
+use Rattle.std.specs.Prelude.{ℕ, zero, suc, ◌+◌, Option}
 use Rattle.elements.specs.Kinds.{basin_of, dam_of, extra_tanks}
 use Rattle.table.specs.Tables.{TableValues}
+use Rattle.elements.specs.declared.Kind.{Kind}
 
 -- among the first i elements, by what a kind counts
-unfoldable pub count_before : (ℕ → ℕ) → TableValues → ℕ → ℕ
+unfoldable pub count_before : (Option Kind → ℕ) → TableValues → ℕ → ℕ
 count_before of t zero = 0
 count_before of t (suc i) = count_before of t i + of (t.element i).kind
 

@@ -9,8 +9,8 @@ ghost use Rattle.table.specs.Decoded.{CountsHeld, TableRead};
 ghost use Rattle.table_reader.specs.Judged.{Judged};
 
 use down_rules::down_fits;
-use element_rules::{JudgedElement, judge_element};
-use elements::{element_at, extra_at};
+use element_rules::judge_element;
+use elements::{Kind, element_at, extra_at};
 use refusal::Refusal;
 use table::Counts;
 
@@ -33,19 +33,15 @@ fn judge_elements(table: &[u8], step: u64, n: usize) -> Result<KindCounts, Refus
     let mut dams: usize = 0;
     let mut extra: usize = 0;
     for i in 0..n {
-        let judged = judge_element(step, element_at(table, i));
-        match judged {
-            JudgedElement::Refused => {
-                return Err(Refusal::ElementField);
-            }
-            JudgedElement::Basin => {
+        match judge_element(step, element_at(table, i)).ok_or(Refusal::ElementField)? {
+            Kind::Basin => {
                 basins += 1;
             }
-            JudgedElement::Reach => {}
-            JudgedElement::Dam => {
+            Kind::Reach => {}
+            Kind::Dam => {
                 dams += 1;
             }
-            JudgedElement::Tanks => {
+            Kind::Tanks => {
                 extra += extra_at(table, i);
             }
         }

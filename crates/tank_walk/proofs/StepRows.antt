@@ -41,6 +41,7 @@ use Rattle.tank_walk.specs.Tanks.{tank_place, RowMoved, TanksWorked, TanksThere,
 use Rattle.tank_walk.proofs.RowLaws.{opened-here, opened-other, tank_row, tank-last, tank-inner, tank-in, rest-down}
 use Rattle.tank_walk.proofs.TankLaws.{place-last, place-inner}
 use Rattle.tank_walk.proofs.TurnLaws.{KeptRows, tank_inlet, open-one, open-tanks, last-ready, last_turn, tanks-walked, tanks-refused}
+use Rattle.elements.proofs.KindLaws.{eq-same}
 
 -- ---- where tanks stand
 
@@ -105,7 +106,7 @@ module _ (t : TableValues) where
     module _ (b : AcceptedBounds t) (kind : (t.element i).kind ≡ tanks) where
       pub extra-is : extra ≡ (t.element i).runoff - 1
       unfolding extra_tanks
-      extra-is = rw (eq-eqb (t.element i).kind tanks kind)
+      extra-is = rw (eq-same (t.element i).kind tanks kind)
 
       pub extra-some : 0 < extra
       extra-some = omega (arith, extra-is, ((b.element i used).tanks kind).0)

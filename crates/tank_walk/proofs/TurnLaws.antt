@@ -21,7 +21,7 @@ use Rattle.method.specs.declared.Figures.{Figures}
 use Rattle.elements.specs.declared.Element.{Element}
 use Rattle.table.specs.Tables.{TableValues}
 use Rattle.walk.specs.Space.{Later}
-use Rattle.elements.specs.Kinds.{tanks, extra_tanks}
+use Rattle.elements.specs.Kinds.{tanks, extra_tanks, same_kind}
 use Rattle.table.specs.KindCounts.{extra_before}
 use Rattle.cells.specs.Cells.{first_cell, last_cell, inlet_of, last_of, tank_of, draining_into, cells}
 use Rattle.cells.proofs.CellLaws.{first_next, last-most, last-cell, inner-cell, cell-used, inlet-later}
@@ -42,7 +42,7 @@ module _ (t : TableValues) where
   last-down : (i : ℕ) → i < t.elements → network_down (cells t) (last_cell t i) ≡ inlet_of t (t.element i).down
   unfolding network_down last_of tank_of draining_into
   last-down i l =
-      ap (λ (e : Element). e.down) (cell-used t (last_cell t i) (last-most t i l) ∙ last-cell t i l) ∙ go (eqb (t.element i).kind tanks)
+      ap (λ (e : Element). e.down) (cell-used t (last_cell t i) (last-most t i l) ∙ last-cell t i l) ∙ go (same_kind (t.element i).kind tanks)
     where
       go :
           (x : Bool)

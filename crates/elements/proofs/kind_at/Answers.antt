@@ -1,7 +1,0 @@
--- `kind_at` meets its contract.
-use Rattle.elements.specs.Elements.{element_at}
-use Rattle.elements.proofs.kind_at.Goals as goal
-
-pub returns : goal.returns
-unfolding element_at
-returns c = c.wide.ensures.0
