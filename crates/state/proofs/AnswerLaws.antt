@@ -21,7 +21,7 @@ answered-refused v e s = record { verdict = rw (v, e); state = rw (e, s) }
 
 pub answered-accepted :
     {v : Result Unit Refusal} {answer : Answer State} {before next after : State}
-    → v ≡ (Ok tt)
+    → v ≡ Ok tt
     → answer ≡ accepted next
     → after ≡ next
     → Answered v after answer before
@@ -32,7 +32,7 @@ answered-accepted v e s = record { verdict = rw (v, e); state = rw (e, s) }
 pub answered-next :
     (v : Result Unit Refusal) (after : State) (answer : Answer State) (before : State)
     → Answered v after answer before
-    → v ≡ (Ok tt)
+    → v ≡ Ok tt
     → answer ≡ accepted after
 unfolding verdict state_after
 answered-next v after answer before h e = go answer h.verdict h.state

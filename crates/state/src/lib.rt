@@ -21,6 +21,7 @@ pub struct Rains {
 }
 
 // The figures of element i, counted from 0.
+#[tactic(auto, unfolding(crate::specs::States::figures_of))]
 pub fn figures_of(state: &[u64; STATE_NUMBERS], i: usize) -> Figures
     requires { i < most_places }
     ensures { result ≡ figures_of state.now i }
@@ -35,6 +36,7 @@ pub fn figures_of(state: &[u64; STATE_NUMBERS], i: usize) -> Figures
 }
 
 // The discharge of element i alone.
+#[tactic(auto, unfolding(crate::specs::States::figures_of))]
 pub fn discharge_of(state: &[u64; STATE_NUMBERS], i: usize) -> Discharge
     requires { i < most_places }
     ensures { result ≡ (figures_of state.now i).discharge }
@@ -43,6 +45,7 @@ pub fn discharge_of(state: &[u64; STATE_NUMBERS], i: usize) -> Discharge
 }
 
 // The rains of element i.
+#[tactic(auto, unfolding(crate::specs::States::rains_of))]
 pub fn rains_of(state: &[u64; STATE_NUMBERS], i: usize) -> Rains
     requires { i < most_places }
     ensures { result ≡ rains_of state.now i }
@@ -56,22 +59,20 @@ pub fn rains_of(state: &[u64; STATE_NUMBERS], i: usize) -> Rains
 }
 
 // Other figures of element i.
+#[tactic(auto, unfolding(crate::specs::States::put_figures))]
 pub fn put_figures(state: &mut [u64; STATE_NUMBERS], i: usize, f: Figures)
     requires { i < most_places }
     ensures { state.new ≡ put_figures state.old i f }
 {
     let at = PLACE_NUMBERS * i + 2;
-    let q = f.discharge;
-    let e = f.discharge_margin;
-    let v = f.variance;
-    let d = f.variance_margin;
-    state[at] = q.0;
-    state[at + 1] = e.0;
-    state[at + 2] = v.0;
-    state[at + 3] = d.0;
+    state[at] = f.discharge.0;
+    state[at + 1] = f.discharge_margin.0;
+    state[at + 2] = f.variance.0;
+    state[at + 3] = f.variance_margin.0;
 }
 
 // Other rains of element i.
+#[tactic(auto, unfolding(crate::specs::States::put_rains))]
 pub fn put_rains(state: &mut [u64; STATE_NUMBERS], i: usize, r: Rains)
     requires { i < most_places }
     ensures { state.new ≡ put_rains state.old i r }
@@ -83,35 +84,21 @@ pub fn put_rains(state: &mut [u64; STATE_NUMBERS], i: usize, r: Rains)
 }
 
 // Rule 8 on the figures of a place.
+#[tactic(auto, unfolding(crate::specs::Rules::figures_fit))]
 pub fn figures_fit(f: Figures) -> bool
     ensures { result ≡ figures_fit f }
 {
-    let q = f.discharge;
-    let e = f.discharge_margin;
-    let v = f.variance;
-    let d = f.variance_margin;
-    if Discharge::CEILING < q.0 {
-        return false;
-    }
-    if Discharge::CEILING < e.0 {
-        return false;
-    }
-    if Variance::CEILING < v.0 {
-        return false;
-    }
-    d.0 <= Variance::CEILING
+    f.discharge.0 <= Discharge::CEILING
+        && f.discharge_margin.0 <= Discharge::CEILING
+        && f.variance.0 <= Variance::CEILING
+        && f.variance_margin.0 <= Variance::CEILING
 }
 
+#[tactic(auto, unfolding(crate::specs::Rules::rains_fit))]
 fn rains_fit(r: Rains) -> bool
     ensures { result ≡ rains_fit r }
 {
-    if 3_000 < r.first {
-        return false;
-    }
-    if 3_000 < r.second {
-        return false;
-    }
-    r.third <= 3_000
+    r.first <= 3_000 && r.second <= 3_000 && r.third <= 3_000
 }
 
 // Rule 8 on the place of element i: the rains of a basin alone are read.
@@ -130,6 +117,7 @@ pub fn place_fits(state: &[u64; STATE_NUMBERS], i: usize, kind: Option<Kind>) ->
 }
 
 // Rule 9; and a state has all its numbers.
+#[tactic(auto, unfolding(crate::specs::Rules::steps_left))]
 pub fn steps_left(state: &[u64; STATE_NUMBERS]) -> bool
     ensures { (result ≡ steps_left state.now) × (length state.now ≡ state_numbers) }
 {
