@@ -14,6 +14,7 @@ use Rattle.table.specs.Bounds.{AcceptedBounds, TableBounds}
 use Rattle.table.specs.KindCounts.{extra_count}
 use Rattle.cells.specs.Cells.{last_cell, cell_at, last_of, tank_of, draining_into, inlet_of, gauge_of, cells}
 use Rattle.cells.proofs.CellLaws.{Cell, last, inner, cell-of, last-cell, inner-cell, inner-tanks, inlet-most, inlet-later, last-most, last-rises, cell-used}
+use Rattle.elements.proofs.KindLaws.{same-false, same-true}
 
 module _ (T n i : ℕ) (e : Element) (b : AcceptedElement T n i e) where
   -- a tank
@@ -82,8 +83,8 @@ module _ (t : TableValues) (b : AcceptedBounds t) where
           (x : Bool)
           → same_kind e.kind tanks ≡ x
           → ElementBounds t.step many (last_cell t i) (cond x (tank_of e (inlet_of t e.down)) (draining_into e (inlet_of t e.down)))
-      go true k = tank-bounds _ _ i e (b.element i l) many (last_cell t i) _ (eqb-true _ _ k) most later
-      go false k = one-bounds _ _ i e (b.element i l) many (last_cell t i) _ (eqb-false _ _ k) most later
+      go true k = tank-bounds _ _ i e (b.element i l) many (last_cell t i) _ (same-true _ _ k) most later
+      go false k = one-bounds _ _ i e (b.element i l) many (last_cell t i) _ (same-false _ _ k) most later
 
   cell-bounds : (c : ℕ) → Cell t c → ElementBounds t.step many c (cell_at t c)
   cell-bounds c (last i l e) = subst (λ (k : ℕ). ElementBounds t.step many k (cell_at t k)) (sym e) (rw (last-cell t i l) (last-bounds i l))

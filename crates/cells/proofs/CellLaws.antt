@@ -16,7 +16,7 @@ use Rattle.table.proofs.InUseLaws.{below-used}
 use Rattle.table.proofs.CountLaws.{extra-rise}
 use Rattle.table.specs.KindCounts.{extra_before, extra_count}
 use Rattle.cells.specs.Cells.{first_cell, last_cell, element_among, element_of, cell_at, cell_place, last_of, tank_of, draining_into, inlet_of, cells}
-use Rattle.elements.proofs.KindLaws.{ne-same}
+use Rattle.elements.proofs.KindLaws.{ne-same, same-true}
 
 -- what an element's last cell is: a reach of tanks ends in a reach
 unfoldable pub cell_kind : Element → ℕ
@@ -36,7 +36,7 @@ module _ {A : Type 0} (of_basin none of_dam : A) where
       tanks-none k q = rw q
 
       go : (x : Bool) → same_kind e.kind tanks ≡ x → by_kind (cond x reach e.kind) of_basin none of_dam none ≡ by_kind e.kind of_basin none of_dam none
-      go true q = tanks-none e.kind (eqb-true _ _ q)
+      go true q = tanks-none e.kind (same-true _ _ q)
       go false q = refl
 
 -- cell c is of element i
@@ -193,7 +193,7 @@ module _ (t : TableValues) where
   inner-tanks {i} {c} h n = go (same_kind (t.element i).kind tanks) refl h.from n
     where
       go : (x : Bool) → same_kind (t.element i).kind tanks ≡ x → i + extra_before t i ≤ c → c < i + (extra_before t i + cond x ((t.element i).runoff - 1) 0) → (t.element i).kind ≡ tanks
-      go true k a b = eqb-true _ _ k
+      go true k a b = same-true _ _ k
       go false k a b = absurd (omega (arith, a, b))
 
   -- a cell in use

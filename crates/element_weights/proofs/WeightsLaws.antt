@@ -13,7 +13,7 @@ use Rattle.weighting.specs.Weight.{weight}
 use Rattle.elements.specs.declared.Element.{Element}
 use Rattle.elements.specs.Elements.{element_at}
 use Rattle.elements.specs.Kinds.{dam, tanks, by_kind, same_kind}
-use Rattle.elements.proofs.KindLaws.{kind-cases, no_other, eq-same, same-true}
+use Rattle.elements.proofs.KindLaws.{kind-cases, no_other, eq-same, same-true, same-false}
 use Rattle.table.specs.Tables.{TableValues}
 use Rattle.table.specs.InUse.{table_in}
 use Rattle.table.proofs.InUseLaws.{element-read}
@@ -59,7 +59,7 @@ module _ (bytes : List ℕ) (i : ℕ) {step lag : ℕ} (known : ElementKnown byt
       go true k = is
       go false k =
           kind-cases (λ (x : ℕ). w ≡ x) e.kind (λ _. is) (λ _. is) (λ d. absurd (stores n d))
-          (λ p q r. absurd (no_other ((element-bounds bytes known.table known.used).single (eqb-false _ _ k)) p q r))
+          (λ p q r. absurd (no_other ((element-bounds bytes known.table known.used).single (same-false _ _ k)) p q r))
 
   -- a lag of 0 is a dam's
   pub no-weight : lag ≡ 0 → 0 ≡ element_weight (table_in bytes) i

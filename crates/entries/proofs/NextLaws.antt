@@ -27,7 +27,7 @@ use Rattle.method.specs.Correction.{corrected, correction_numbers}
 use Rattle.fields.proofs.RangeLaws.{all-below}
 use Rattle.elements.specs.declared.Element.{Element}
 use Rattle.elements.specs.Kinds.{basin, tanks, by_kind, IsKind, same_kind}
-use Rattle.elements.proofs.KindLaws.{kind-cases, kind-both, no_other}
+use Rattle.elements.proofs.KindLaws.{kind-cases, kind-both, no_other, same-false}
 use Rattle.table.specs.Tables.{TableValues}
 use Rattle.table.specs.Bounds.{TableBounds}
 use Rattle.table.specs.KindCounts.{extra_count}
@@ -155,7 +155,7 @@ place-fits kind p single f r = go (same_kind kind tanks) refl
     go true k = figures-fit _ f
     go false k =
         kind-cases (λ (fit : Bool). fit ≡ true) kind (λ b. rw (figures-fit _ f, rains-fit _ (r b))) (λ _. figures-fit _ f)
-        (λ _. figures-fit _ f) (λ a b c. absurd (no_other (single (eqb-false _ _ k)) a b c))
+        (λ _. figures-fit _ f) (λ a b c. absurd (no_other (single (same-false _ _ k)) a b c))
 
 -- a state within the bounds of rule 8 is accepted by it
 pub bounds-fit : (t : TableValues) (s : State) → TableBounds (cells t) → StateBounds t s → state_fits t s ≡ true

@@ -17,7 +17,7 @@ use Rattle.method.specs.declared.Figures.{Figures}
 use Rattle.elements.specs.declared.Element.{Element}
 use Rattle.elements.specs.Elements.{element_at}
 use Rattle.elements.specs.Kinds.{basin, tanks, by_kind, extra_tanks, same_kind}
-use Rattle.elements.proofs.KindLaws.{by-basin, by-tanks, kind-cases}
+use Rattle.elements.proofs.KindLaws.{by-basin, by-tanks, kind-cases, same-true}
 use Rattle.table.specs.Tables.{TableValues}
 use Rattle.table.specs.KindCounts.{extra_before, extra_count}
 use Rattle.table.specs.InUse.{table_in}
@@ -403,7 +403,7 @@ last-put t e p s = go (same_kind e.kind tanks) refl
         → same_kind e.kind tanks ≡ x
         → let c = cond x (tank_of e (inlet_of t e.down)) (draining_into e (inlet_of t e.down)) in
         put_place c.kind (first_figures c) no_rains p s ≡ put_place e.kind (first_figures e) no_rains p s
-    go true k = sym (by-tanks e.kind _ _ _ _ (eqb-true _ _ k))
+    go true k = sym (by-tanks e.kind _ _ _ _ (same-true _ _ k))
     go false k = refl
 
 module _ (table : List ℕ) (s : State) where

@@ -16,7 +16,7 @@ use Rattle.std.specs.Prelude.{Option}
 use Rattle.elements.specs.declared.Kind.{Kind}
 
 -- by what a kind counts
-module _ (of : ℕ → ℕ) (t : TableValues) where
+module _ (of : Option Kind → ℕ) (t : TableValues) where
   -- a loop that counts: where it begins, one element more, and the end
   pub count_none : 0 ≡ count_before of t 0
   unfolding count_before
@@ -89,7 +89,7 @@ pub extra-read :
 extra-read bytes i l h = extra-more (table_in bytes) i refl (h ∙ ap extra_tanks (sym (element-read bytes i l)))
 
 -- only the places in use are counted
-module _ (of : ℕ → ℕ) (bytes : List ℕ) where
+module _ (of : Option Kind → ℕ) (bytes : List ℕ) where
   count_held : (i : ℕ) → i ≤ (table_in bytes).elements → count_before of (table_of bytes) i ≡ count_before of (table_in bytes) i
   unfolding count_before table_of
   count_held zero l = refl

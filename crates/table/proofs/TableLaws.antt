@@ -26,6 +26,7 @@ use Rattle.table.specs.Tables.{TableValues, table_of}
 use Rattle.table.specs.Rules.{length_fits, version_fits, counts_fit, size_fits, elements_fit, downs_fit, gauges_fit, table_rules}
 use Rattle.table.specs.KindCounts.{extra_before}
 use Rattle.table.specs.Bounds.{AcceptedBounds}
+use Rattle.elements.proofs.KindLaws.{same-true}
 
 -- what is made of the answer after the rules
 pub and-then :
@@ -119,7 +120,7 @@ unfolding extra_tanks
 extra-few e h = go (same_kind e.kind tanks) refl
   where
     go : (x : Bool) → same_kind e.kind tanks ≡ x → cond x (e.runoff - 1) 0 ≤ 7
-    go true k = omega (arith, h (eqb-true _ _ k))
+    go true k = omega (arith, h (same-true _ _ k))
     go false k = omega arith
 
 extra-most :
