@@ -41,22 +41,18 @@ impl Figures {
     pub fn discharge_estimate(self) -> Estimate
         ensures { result ≡ discharge self }
     {
-        let value = self.discharge;
-        let margin = self.discharge_margin;
         Estimate {
-            value: value.0,
-            margin: margin.0,
+            value: self.discharge.0,
+            margin: self.discharge_margin.0,
         }
     }
 
     pub fn variance_estimate(self) -> Estimate
         ensures { result ≡ variance self }
     {
-        let value = self.variance;
-        let margin = self.variance_margin;
         Estimate {
-            value: value.0,
-            margin: margin.0,
+            value: self.variance.0,
+            margin: self.variance_margin.0,
         }
     }
 }

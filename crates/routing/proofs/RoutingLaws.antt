@@ -1,43 +1,18 @@
 -- Laws of the move of one element.
-use Prim.Native.Nat.{ℕ, ◌+◌, ◌≤◌, ◌<◌}
+use Prim.Native.Nat.{ℕ}
 use mathlib.Core.Bool.{Bool, true, false, cond, ◌||◌, or-true, or-false, or_comm}
 use mathlib.Core.List.{[], ◌∷◌}
-use mathlib.Core.Path.{◌≡◌, refl, sym, ap, ◌∙◌}
+use mathlib.Core.Path.{◌≡◌, refl, ap, ◌∙◌}
 use lib.Dec.{ltb}
 use Rattle.refusal.specs.Answers.{Answer, accepted, refused, and_then}
 use Rattle.units.specs.Units.{C}
 use Rattle.units.specs.Ceiling.{some_passes, under_ceiling}
-use Rattle.units.proofs.CeilingLaws.{passes, stays, none_left}
 use Rattle.weighting.specs.declared.Estimate.{Estimate}
-use Rattle.weighting.specs.Estimates.{estimate}
-use Rattle.weighting.specs.Blend.{blended}
 use Rattle.method.specs.declared.Figures.{Figures}
 use Rattle.method.specs.Figures.{variance}
 use Rattle.method.specs.Inflow.{inflow_numbers, inflow_answer}
-use Rattle.method.specs.Routing.{routed_discharge, old_variance_part, inflow_variance_part, routed_variance, routed, variance_numbers, routing_numbers, routing_answer}
+use Rattle.method.specs.Routing.{routed_discharge, routed, variance_numbers, routing_numbers, routing_answer}
 use Rattle.routing.specs.Parts.{part_margins, parts_answer, routed_answer}
-
-module _ (H W : ℕ) (inflow old : Estimate) where
-  pub old-part-passes : C < (old_variance_part H old).margin → parts_answer H W inflow old ≡ refused 16
-  unfolding part_margins
-  old-part-passes h = passes _ _ _ h
-
-  pub inflow-part-passes :
-      (old_variance_part H old).margin ≤ C
-      → C < (inflow_variance_part H inflow).margin
-      → parts_answer H W inflow old ≡ refused 16
-  unfolding part_margins
-  inflow-part-passes l h = stays _ _ _ l ∙ passes _ _ _ h
-
-  pub parts-accepted :
-      (a b v : Estimate)
-      → ((old_variance_part H old).margin ≤ C) × (a ≡ old_variance_part H old)
-      → ((inflow_variance_part H inflow).margin ≤ C) × (b ≡ inflow_variance_part H inflow)
-      → v ≡ blended H 3 a b
-      → accepted (estimate (v.value + W) v.margin) ≡ parts_answer H W inflow old
-  unfolding part_margins routed_variance
-  parts-accepted a b v old-part inflow-part both =
-      rw (both, old-part.1, inflow-part.1) (sym (stays _ _ _ old-part.0 ∙ (stays _ _ _ inflow-part.0 ∙ none_left _)))
 
 -- the code judges the parts before the discharge, and the variance before its margin: two numbers, four, and all in the order of rule 16
 in_order :

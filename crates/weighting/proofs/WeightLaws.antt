@@ -1,21 +1,10 @@
 -- Laws of the series weight.
 use Prim.Native.Nat.{ℕ, zero, suc, ◌+◌, ◌-◌, ◌*◌, ◌/◌, ◌≤◌, ◌<◌}
-use mathlib.Core.Path.{◌≡◌, sym}
-use native.Mathlib.Nat.{mul-le-mul, mul-le-mul_left, mul-le-mul_right, div-mul-le_self, lt-div-mul-add, div-le_of_le-mul, div-le_self, div-eq_of_lt-le, div-div-eq-div-mul}
+use mathlib.Core.Path.{◌≡◌}
+use native.Mathlib.Nat.{mul-le-mul_left, mul-le-mul_right, div-mul-le_self, lt-div-mul-add, div-le_of_le-mul, div-div-eq-div-mul}
 use native.Mathlib.Omega.{arith}
 use Rattle.units.specs.Units.{S}
 use Rattle.weighting.specs.Weight.{turned, weight}
-
--- the quotient by lag, where q is that or one less
-module _ (x lag q : ℕ) where
-  pub quotient-less : 1 ≤ lag → q * lag ≤ x → q ≤ x
-  quotient-less some low = omega (arith, mul-le-mul_left q some)
-
-  pub quotient-next : q * lag + lag ≤ x → x < q * lag + 2 * lag → q + 1 ≡ x / lag
-  quotient-next low high = sym (div-eq_of_lt-le lag (omega arith) (omega arith))
-
-  pub quotient-same : q * lag ≤ x → x < q * lag + lag → q ≡ x / lag
-  quotient-same low high = sym (div-eq_of_lt-le lag low (omega arith))
 
 -- the code's SHARES
 abbrev pub shares : ℕ
@@ -57,12 +46,6 @@ turned-once T lag h (suc m) l = let e : suc m - 1 ≡ m = omega arith in rw e
 
 -- one turn of the loop, where d is T × h / lag
 module _ (T lag h m d : ℕ) (divided : d ≡ T * h / lag) where
-  -- what is taken from S is at most S
-  pub taken-le : T ≤ lag → h ≤ S → d / m ≤ S
-  taken-le step most =
-      let l : T * h / lag ≤ S = div-le_of_le-mul lag {m = T * h} {n = S} (mul-le-mul step most) in
-      omega (arith, div-le_self d m)
-
   pub turned-again : 0 < m → turned T lag h m ≡ turned T lag (S - d / m) (m - 1)
   turned-again left = rw (divided, div-div-eq-div-mul (T * h) lag m) (turned-once T lag h m left)
 

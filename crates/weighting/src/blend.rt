@@ -15,6 +15,7 @@ fn weighted_mean(w: u64, x: u64, y: u64) -> u64
 }
 
 // The larger of x and y less the smaller.
+#[tactic(auto, unfolding(crate::specs::Blend::gap_of))]
 fn gap(x: u64, y: u64) -> u64
     requires { (x ≤ C) × (y ≤ C) }
     ensures { (result ≡ gap_of x y) × (result ≤ C) }
@@ -32,6 +33,7 @@ fn weight_error(g: u64, apart: u64) -> u64
 
 // The blend of x and y by the weight w, which is within g of the exact one. Its value is under the ceiling as theirs are;
 // the margin may pass it, and is judged by those who know its unit.
+#[tactic(auto, unfolding(crate::specs::Blend::blended))]
 pub fn blend(w: u64, g: u64, x: Estimate, y: Estimate) -> Estimate
     requires { (w ≤ S) × ((g ≤ S) × (EstimateFits x × EstimateFits y)) }
     ensures { (result ≡ blended w g x y) × (result.value ≤ C) }
