@@ -3,9 +3,7 @@ use Prim.Native.Nat.{ℕ, ◌+◌, ◌-◌, ◌≤◌, ◌<◌}
 use mathlib.Core.Bool.{Bool, true, false, cond}
 use mathlib.Core.Logic.{◌⊎◌, inl, inr, ◌≢◌}
 use mathlib.Core.Path.{◌≡◌, refl, sym, subst}
-use borrow.Author.Tests.{eqb-true, eqb-false}
 use native.Mathlib.Omega.{arith}
-use lib.Dec.{eqb}
 use Rattle.elements.specs.declared.Element.{Element}
 use Rattle.elements.specs.Kinds.{tanks, same_kind}
 use Rattle.elements.specs.Bounds.{AcceptedElement, ElementBounds}
@@ -30,8 +28,8 @@ module _ (T n i : ℕ) (e : Element) (b : AcceptedElement T n i e) where
         kind = inr (inl refl);
         down = most;
         later = later;
-        lag = λ _. b.lag (λ d. omega (arith, k, d));
-        no_lag = λ d. absurd (omega (arith, d));
+        lag = λ _. b.lag (λ d. cc);
+        no_lag = λ d. cc;
         area = omega arith;
         runoff = omega arith;
         first_discharge = b.first_discharge;

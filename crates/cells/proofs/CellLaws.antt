@@ -3,11 +3,11 @@ use Prim.Native.Nat.{ℕ, zero, suc, ◌+◌, ◌-◌, ◌≤◌, ◌<◌}
 use mathlib.Core.Bool.{Bool, true, false, cond}
 use mathlib.Core.Logic.{◌⊎◌, inl, inr, ◌≢◌, ⊎_elim}
 use mathlib.Core.Path.{◌≡◌, refl, sym, ap, ◌∙◌}
-use borrow.Author.Tests.{leb-true, leb-false, le-leb, lt-leb, eqb-true, eq-eqb, ne_eqb}
+use borrow.Author.Tests.{leb-true, leb-false, le-leb, lt-leb, eq-eqb, ne_eqb}
 use native.Mathlib.Nat.{eq-or-lt_of_le}
 use native.Mathlib.Numerals.{add-one}
 use native.Mathlib.Omega.{arith}
-use lib.Dec.{leb, eqb}
+use lib.Dec.{leb}
 use Rattle.elements.specs.declared.Element.{Element}
 use Rattle.elements.specs.Kinds.{basin, reach, tanks, by_kind, extra_tanks, same_kind}
 use Rattle.elements.specs.Elements.{no_element}
@@ -17,9 +17,11 @@ use Rattle.table.proofs.CountLaws.{extra-rise}
 use Rattle.table.specs.KindCounts.{extra_before, extra_count}
 use Rattle.cells.specs.Cells.{first_cell, last_cell, element_among, element_of, cell_at, cell_place, last_of, tank_of, draining_into, inlet_of, cells}
 use Rattle.elements.proofs.KindLaws.{ne-same, same-true}
+use Rattle.std.specs.Prelude.{Option}
+use Rattle.elements.specs.declared.Kind.{Kind}
 
 -- what an element's last cell is: a reach of tanks ends in a reach
-unfoldable pub cell_kind : Element → ℕ
+unfoldable pub cell_kind : Element → Option Kind
 cell_kind e = cond (same_kind e.kind tanks) reach e.kind
 
 pub one-kind : (e : Element) → e.kind ≢ tanks → cell_kind e ≡ e.kind
@@ -32,7 +34,7 @@ module _ {A : Type 0} (of_basin none of_dam : A) where
   unfolding cell_kind by_kind
   by-last-kind e = go (same_kind e.kind tanks) refl
     where
-      tanks-none : (k : ℕ) → k ≡ tanks → by_kind reach of_basin none of_dam none ≡ by_kind k of_basin none of_dam none
+      tanks-none : (k : Option Kind) → k ≡ tanks → by_kind reach of_basin none of_dam none ≡ by_kind k of_basin none of_dam none
       tanks-none k q = rw q
 
       go : (x : Bool) → same_kind e.kind tanks ≡ x → by_kind (cond x reach e.kind) of_basin none of_dam none ≡ by_kind e.kind of_basin none of_dam none
@@ -219,7 +221,7 @@ module _ (t : TableValues) where
   last-basin i l k = go (same_kind (t.element i).kind tanks) (sym (last-kind i l) ∙ k)
     where
       go : (x : Bool) → cond x reach (t.element i).kind ≡ basin → (t.element i).kind ≡ basin
-      go true e = absurd (omega (arith, e))
+      go true e = cc
       go false e = e
 
   pub inner-kind : {i c : ℕ} → CellIn t i c → c < last_cell t i → (cell_at t c).kind ≡ reach

@@ -5,7 +5,7 @@ use mathlib.Core.Logic.{◌≢◌}
 use mathlib.Core.Path.{◌≡◌, refl, sym, ap, subst, ◌∙◌}
 use borrow.Author.Tests.{le-ltb, leb-true, leb-false}
 use native.Mathlib.Omega.{arith}
-use lib.Dec.{leb, eqb}
+use lib.Dec.{leb}
 use Rattle.elements.specs.declared.Element.{Element}
 use Rattle.elements.specs.Kinds.{dam, tanks, extra_tanks, same_kind}
 use Rattle.table.specs.Tables.{TableValues}
@@ -90,12 +90,12 @@ module _ (t : TableValues) where
 
   -- a dam is one cell, a dam
   pub dam-cell : (k : ℕ) → k < t.elements → (t.element k).kind ≡ dam → ((cells t).element (first_cell t k)).kind ≡ dam
-  unfolding extra_tanks
+  unfolding extra_tanks same_kind
   dam-cell k l d =
       let one : last_cell t k ≡ first_cell t k = last-is t k ∙ omega (arith, no_extra) in
       ap (λ (c : ℕ). ((cells t).element c).kind) (sym one)
       ∙ (ap (λ (e : Element). e.kind) (cell-used t (last_cell t k) (last-most t k l))
-      ∙ (last-kind t k l ∙ (one-kind (t.element k) (λ e. omega (arith, d, e)) ∙ d)))
+      ∙ (last-kind t k l ∙ (one-kind (t.element k) (λ e. cc) ∙ d)))
     where
       no_extra : cond (same_kind (t.element k).kind tanks) ((t.element k).runoff - 1) 0 ≡ 0
       no_extra = rw d

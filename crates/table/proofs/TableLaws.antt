@@ -4,9 +4,7 @@ use Prim.Native.Nat.{ℕ, zero, suc, ◌+◌, ◌*◌, ◌-◌, ◌≤◌, ◌<�
 use mathlib.Core.Bool.{Bool, true, false, cond}
 use mathlib.Core.List.{List}
 use mathlib.Core.Path.{◌≡◌, refl, ◌∙◌}
-use borrow.Author.Tests.{eqb-true}
 use native.Mathlib.Omega.{arith}
-use lib.Dec.{eqb}
 use Rattle.sizes.specs.Sizes.{most_elements, most_leads, most_gauges}
 use Rattle.refusal.proofs.RuleLaws.{rule-then, then-kept, rule-kept}
 use Rattle.refusal.specs.Answers.{Answer, accepted, refused, and_then, rule}
