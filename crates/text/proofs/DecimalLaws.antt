@@ -1,15 +1,20 @@
 -- Laws of decimal digits.
-use Prim.Native.Nat.{ℕ, zero, suc, ◌+◌, ◌*◌, ◌/◌, ◌%◌, ◌^◌, ◌≤◌, ◌<◌}
+use Prim.Native.Nat.{ℕ, zero, suc, ◌+◌, ◌-◌, ◌*◌, ◌/◌, ◌%◌, ◌^◌, ◌≤◌, ◌<◌}
 use mathlib.Core.Bool.{Bool, true, false, cond}
 use lib.Dec.{ltb}
 use borrow.Author.Tests.{lt-ltb, le-ltb}
-use native.Mathlib.Nat.{mod-eq_of_lt, pow-suc, add-mul-mod_self_left, add-mul-div_left, div-eq_of_lt}
+use native.Mathlib.Nat.{mod-eq_of_lt, pow-suc}
 use mathlib.Core.List.{List, [], ◌∷◌, ◌++◌, append_assoc}
-use mathlib.Core.Path.{◌≡◌, sym, ap, ◌∙◌}
+use mathlib.Core.Path.{◌≡◌, refl, sym, ap, ◌∙◌}
 use native.Mathlib.Omega.{arith}
-use lib.ListN.{length, take, length-append}
+use lib.ListN.{length, take, drop, get_or, length-append, drop_of_length-le}
+use Rattle.std.specs.Int.{w32, to_le_bytes}
+use lib.Seq.{take_all}
+use native.Mathlib.Numerals.{unary_clauses}
+use Rattle.std.proofs.lemmas.List.{drop-append-le}
+use Rattle.std.proofs.lemmas.Nat.{le_bytes_4}
 use Rattle.text.specs.Decimal.{digits_within, decimal, last_digits}
-use Rattle.text.specs.Fours.{pair_of, four_of, word_bytes}
+use Rattle.text.specs.Fours.{four_of}
 
 within-either : (most n : ℕ) (b : Bool) (shorter : List ℕ) → length shorter ≤ most
     → length (cond b ((48 + n) ∷ []) (shorter ++ (48 + n % 10) ∷ [])) ≤ suc most
@@ -98,77 +103,44 @@ decimal-four n h small =
     )
     (simp append_assoc)
 
--- a word without its lowest byte
-low : (a b word : ℕ) → a < 256 → word ≡ a + 256 * b → (word % 256 ≡ a) × (word / 256 ≡ b)
-low a b word h e = (
-  rw (e, add-mul-mod_self_left a 256 b) (mod-eq_of_lt h),
-  rw (e, add-mul-div_left a b {y = 256} (omega arith), div-eq_of_lt h) (omega arith),
-)
-
-split : (n : ℕ) → n < 100 → pair_of n ≡ 48 + n / 10 % 10 + 256 * (48 + n % 10)
-split n h = omega arith
-
--- a word without its lower two bytes
-upper : (low high word : ℕ) → low < 65536 → word ≡ low + 65536 * high → word / 65536 ≡ high
-upper low high word h e = omega arith
-
--- the bytes of a word of two digits
-two-of : (n word : ℕ) → n < 100 → word ≡ four_of n → word / 65536 ≡ pair_of n
-two-of n word h e =
-    let z : n / 100 ≡ 0 = omega arith in
-    let same : n % 100 ≡ n = omega arith in
-    let e' : word ≡ 12336 + 65536 * pair_of n = e ∙ rw (z, same) in
-    upper 12336 (pair_of n) word (omega arith) e'
-
-pub pair-byte : (n word : ℕ) → n < 100 → word ≡ four_of n → word / 65536 / 256 < 256
-pair-byte n word h e = let two = two-of n word h e in omega arith
-
-pub word-2 : (n word : ℕ) → n < 100 → word ≡ four_of n → word / 65536 % 256 ∷ word / 65536 / 256 ∷ [] ≡ last_digits 2 n
+pub length-last_digits : (count n : ℕ) → length (last_digits count n) ≡ count
 unfolding last_digits
-word-2 n word h e =
-    let l = low (48 + n / 10 % 10) (48 + n % 10) (word / 65536) (omega arith) (two-of n word h e ∙ split n h) in
-    rw (l.0, l.1)
+length-last_digits zero n = refl
+length-last_digits (suc count) n = rw (length-append, length-last_digits count (n / 10)) (omega arith)
 
--- and of three and four
-bytes_of :
-    (a b c d word : ℕ) → a < 256 → b < 256 → c < 256 → word ≡ a + 256 * (b + 256 * (c + 256 * d)) → word_bytes word ≡ a ∷ b ∷ c ∷ d ∷ []
-bytes_of a b c d word p q r e =
-    let l = low a (b + 256 * (c + 256 * d)) word p e in
-    let m = low b (c + 256 * d) (word / 256) q l.1 in
-    let n = low c d (word / 256 / 256) r m.1 in
-    let x : word / 65536 ≡ word / 256 / 256 = omega arith in
-    let y : word / 16777216 ≡ word / 256 / 256 / 256 = omega arith in
-    rw (x, y, l.0, m.0, n.0, n.1)
-
-digits_4 :
-    (n : ℕ)
-    → n < 10000
-    → (48 + n / 100 / 10) ∷ (48 + n / 100 % 10) ∷ (48 + n % 100 / 10) ∷ (48 + n % 100 % 10) ∷ [] ≡ last_digits 4 n
+-- fewer of the last digits
+drop-last_digits : (fewer count n : ℕ) → drop fewer (last_digits (fewer + count) n) ≡ last_digits count n
 unfolding last_digits
-digits_4 n h =
-    let a : n / 100 / 10 ≡ n / 10 / 10 / 10 % 10 = omega arith in
-    let b : n / 100 % 10 ≡ n / 10 / 10 % 10 = omega arith in
-    let c : n % 100 / 10 ≡ n / 10 % 10 = omega arith in
-    let d : n % 100 % 10 ≡ n % 10 = omega arith in
-    rw (a, b, c, d)
+drop-last_digits fewer zero n = simp unary_clauses (drop_of_length-le (last_digits fewer n) (omega (arith, length-last_digits fewer n)))
+drop-last_digits fewer (suc count) n =
+    simp unary_clauses (drop-append-le fewer (last_digits (fewer + count) (n / 10)) ((48 + n % 10) ∷ []) (omega (arith, length-last_digits (fewer + count) (n / 10)))
+    ∙ ap (λ ds. ds ++ (48 + n % 10) ∷ []) (drop-last_digits fewer count (n / 10)))
 
-pub word-4 : (n word : ℕ) → n < 10000 → word ≡ four_of n → word_bytes word ≡ last_digits 4 n
-word-4 n word h e =
-    bytes_of (48 + n / 100 / 10) (48 + n / 100 % 10) (48 + n % 100 / 10) (48 + n % 100 % 10) word (omega arith) (omega arith) (omega arith)
+bytes-small : (a b c d i : ℕ) → a < 256 → b < 256 → c < 256 → d < 256 → get_or (a ∷ b ∷ c ∷ d ∷ []) i 0 < 256
+bytes-small a b c d zero p q r s = p
+bytes-small a b c d (suc zero) p q r s = q
+bytes-small a b c d (suc (suc zero)) p q r s = r
+bytes-small a b c d (suc (suc (suc zero))) p q r s = s
+bytes-small a b c d (suc (suc (suc (suc i)))) p q r s = omega arith
+
+-- the bytes of a word of four digits
+four-bytes : (n : ℕ) → n < 10000 → to_le_bytes w32 (four_of n) ≡ last_digits 4 n
+unfolding last_digits
+four-bytes n h =
+    le_bytes_4 (last_digits 4 n) (four_of n) refl
+    (λ i. bytes-small _ _ _ _ i (omega arith) (omega arith) (omega arith) (omega arith))
     (omega arith)
-    ∙ digits_4 n h
 
-digits_3 :
-    (n : ℕ) → n < 1000 → (48 + n / 100 % 10) ∷ (48 + n % 100 / 10) ∷ (48 + n % 100 % 10) ∷ [] ≡ last_digits 3 n
-unfolding last_digits
-digits_3 n h =
-    let b : n / 100 % 10 ≡ n / 10 / 10 % 10 = omega arith in
-    let c : n % 100 / 10 ≡ n / 10 % 10 = omega arith in
-    let d : n % 100 % 10 ≡ n % 10 = omega arith in
-    rw (b, c, d)
-
-pub word-3 : (n word : ℕ) → n < 1000 → word ≡ four_of n → take 3 (word_bytes (word / 256)) ≡ last_digits 3 n
-word-3 n word h e =
-    ap (take 3)
-    (bytes_of (48 + n / 100 % 10) (48 + n % 100 / 10) (48 + n % 100 % 10) 0 (word / 256) (omega arith) (omega arith) (omega arith) (omega arith))
-    ∙ digits_3 n h
+pub last-bytes :
+    (count n word : ℕ) (bytes : List ℕ)
+    → count ≤ 4
+    → n < 10000
+    → word ≡ four_of n
+    → bytes ≡ to_le_bytes w32 word
+    → take (4 - (4 - count)) (drop (4 - count) bytes) ≡ last_digits count n
+last-bytes count n word bytes few h is b =
+    let e : 4 - (4 - count) ≡ count = omega arith in
+    let p : 4 - count + count ≡ 4 = omega arith in
+    let q : drop (4 - count) bytes ≡ last_digits count n =
+    ap (drop (4 - count)) (b ∙ ap (to_le_bytes w32) is ∙ four-bytes n h ∙ ap (λ k. last_digits k n) (sym p)) ∙ drop-last_digits (4 - count) count n in
+    rw (e, q) (take_all count (last_digits count n) (omega (arith, length-last_digits count n)))

@@ -5,8 +5,8 @@ use mathlib.Core.Path.{◌≡◌, refl, sym, ap, subst, ◌∙◌}
 use native.Mathlib.Nat.{add_assoc}
 use native.Mathlib.Numerals.{add-one}
 use native.Mathlib.Omega.{arith}
-use lib.ListN.{length, take, set, get_or, length-append, length-set}
-use lib.Seq.{take-suc, take-length, take-suc-set, take-take, take-append-add, take_at, length-take-le}
+use lib.ListN.{length, take, set, length-append}
+use lib.Seq.{take-suc-set, take-take, take-append-add, take_at, length-take-le}
 use Rattle.text.specs.Places.{Put}
 
 pub put-nothing : (l : List ℕ) (at : ℕ) → Put l at [] l at
@@ -53,27 +53,7 @@ put-fewer count {l} {at} {bytes} {m} {i} p before few =
       ends = ap (λ k. at + k) (sym (length-take-le count bytes few));
     }
 
--- one more byte of many
-pub put-more : (bytes : List ℕ) (i : ℕ) {l : List ℕ} {at : ℕ} {m : List ℕ} → Put l at (take i bytes) m (at + i) → i < length bytes
-    → at + i < length m → Put l at (take (i + 1) bytes) (set m (at + i) (get_or bytes i 0)) (at + (i + 1))
-put-more bytes i {at = at} p h room =
-    put-ends (put_same (sym (take-suc bytes i 0 h) ∙ ap (λ k. take k bytes) (sym (add-one i))) (put_byte (get_or bytes i 0) p room))
-    (add_assoc at i 1)
-
-pub put_all : (bytes : List ℕ) (i : ℕ) {l : List ℕ} {at : ℕ} {m : List ℕ} → Put l at (take i bytes) m (at + i) → i ≡ length bytes → Put l at bytes m (at + i)
-put_all bytes i p e = put_same (ap (λ k. take k bytes) e ∙ take-length bytes) p
-
 -- what stood before the place stays
 pub put-before : {l : List ℕ} {at : ℕ} {a m : List ℕ} {i : ℕ} → Put l at a m i → at ≤ length l → take at m ≡ take at l
 put-before {l} {at} {a} {m} {i} p h =
     sym (take-take at i m (omega (arith, p.ends))) ∙ ap (take at) p.holds ∙ take_at (take at l) a at (length-take-le at l h)
-
--- four bytes stored
-pub put-four-bytes :
-    (l : List ℕ) (at a b c d : ℕ)
-    → at + 4 ≤ length l
-    → Put l at (a ∷ b ∷ c ∷ d ∷ []) (set (set (set (set l at a) (at + 1) b) (at + 2) c) (at + 3) d) (at + 4)
-put-four-bytes l at a b c d h =
-    let two = put_two l at a b (simp length-set (omega arith)) (omega arith) in
-    let three = put-ends {j = at + 3} (put_byte c two (simp length-set (omega arith))) (omega arith) in
-    put-ends (put_byte d three (simp length-set (omega arith))) (omega arith)

@@ -1,5 +1,6 @@
 -- Serves the code: the digits of 0 to 9,999, four to a word of 32 bits, whose lowest byte is the first digit.
-use Rattle.std.specs.Prelude.{ℕ, zero, suc, ◌+◌, ◌*◌, ◌/◌, ◌%◌, List, [], ◌∷◌, ◌++◌}
+use Rattle.std.specs.Prelude.{ℕ, ◌+◌, ◌*◌, ◌/◌, ◌%◌, List, map}
+use Rattle.std.specs.List.{range_with_len}
 
 -- two digits, and four
 abbrev pub pair_of : ℕ → ℕ
@@ -10,9 +11,4 @@ four_of v = pair_of (v / 100) + 65536 * pair_of (v % 100)
 
 -- the words of 0 to n - 1
 unfoldable pub fours_below : ℕ → List ℕ
-fours_below zero = []
-fours_below (suc n) = fours_below n ++ four_of n ∷ []
-
--- the bytes of a word, the lowest first
-abbrev pub word_bytes : ℕ → List ℕ
-word_bytes w = w % 256 ∷ w / 256 % 256 ∷ w / 65536 % 256 ∷ w / 16777216 ∷ []
+fours_below n = map four_of (range_with_len 0 n)

@@ -5,7 +5,7 @@ use mathlib.Core.Path.{ap}
 use native.Mathlib.Omega.{arith}
 use lib.ListN.{length-set}
 use Rattle.text.proofs.DecimalLaws.{decimal-1, decimal-2}
-use Rattle.text.proofs.PlacesLaws.{put_two, put_byte, put_same, put-ends}
+use Rattle.text.proofs.PlacesLaws.{put_two, put_byte, put_same}
 use Rattle.text.proofs.put_small.Goals as goal
 
 pub returns-then-x-lt10 : goal.returns-then-x-lt10
@@ -16,10 +16,9 @@ returns-then-x-lt10 c = (
 )
 
 pub returns : goal.returns
-returns c = (
-  put-ends
-      (put_byte c.args.after (put_same (decimal-2 c.args.x c.if-x-lt10.false c.requires.0) c.put_pair.ensures)
-      (omega (arith, c.requires.1.0, c.put_pair.auto.out)))
-      (omega arith),
-  omega arith,
-)
+returns c =
+    let p = c.put_last_digits-end.ensures in (
+      put_byte c.args.after (put_same (decimal-2 c.args.x c.if-x-lt10.false c.requires.0) p.0)
+          (omega (arith, c.requires.1.0, p.1, c.put_last_digits-end.auto.out)),
+      omega (arith, p.1),
+    )
