@@ -6,7 +6,7 @@ ghost use Rattle.text.specs.Decimal.{decimal};
 ghost use Rattle.text.specs.Fours.{fours_below};
 ghost use Rattle.text.specs.Places.{Put};
 
-use text::{put_four, put_pair, put_three};
+use text::put_last_digits;
 
 // The digits of a number of at most four, put at a place; the place after them.
 fn put_short(out: &mut [u8], at: usize, v: u32, fours: &[u32]) -> usize
@@ -18,15 +18,14 @@ fn put_short(out: &mut [u8], at: usize, v: u32, fours: &[u32]) -> usize
         return at + 1;
     }
     if v < 100 {
-        put_pair(&mut *out, at, v, fours);
-        return at + 2;
+        return put_last_digits::<2>(out, at, v, fours);
     }
     if v < 1_000 {
-        put_three(&mut *out, at, v, fours);
+        // One store of four bytes, the last of which does not count.
+        put_last_digits::<4>(&mut *out, at, 10 * v, fours);
         return at + 3;
     }
-    put_four(&mut *out, at, v, fours);
-    at + 4
+    put_last_digits::<4>(out, at, v, fours)
 }
 
 // The digits of a number of at most eight, put at a place; the place after them.
@@ -35,12 +34,11 @@ fn put_upper(out: &mut [u8], at: usize, v: u32, fours: &[u32]) -> usize
     ensures { Put out.old at (decimal v) out.new result × (result ≤ at + 8) }
 {
     if v < 10_000 {
-        return put_short(&mut *out, at, v, fours);
+        return put_short(out, at, v, fours);
     }
     let first = v / 10_000;
     let end = put_short(&mut *out, at, first, fours);
-    put_four(&mut *out, end, v - 10_000 * first, fours);
-    end + 4
+    put_last_digits::<4>(out, end, v - 10_000 * first, fours)
 }
 
 // The digits of a number of at most ten, put at a place; the place after them. A short number, as most margins are, goes the shortest way.
@@ -49,12 +47,11 @@ fn put_decimal(out: &mut [u8], at: usize, x: u32, fours: &[u32]) -> usize
     ensures { Put out.old at (decimal x) out.new result }
 {
     if x < 10_000 {
-        return put_short(&mut *out, at, x, fours);
+        return put_short(out, at, x, fours);
     }
     let upper = x / 10_000;
     let end = put_upper(&mut *out, at, upper, fours);
-    put_four(&mut *out, end, x - 10_000 * upper, fours);
-    end + 4
+    put_last_digits::<4>(out, end, x - 10_000 * upper, fours)
 }
 
 // As text::put_number, and faster, for numbers of at most ten digits: the figures of each line.

@@ -6,4 +6,4 @@ use Rattle.figure_text.proofs.put_decimal.Goals as goal
 
 pub returns : goal.returns
 returns c =
-    put_same (upper-and-last _ c.if-x-lt10000.false (omega arith)) (put_then c.put_upper-end.ensures.0 c.put_four.ensures)
+    put_same (upper-and-last _ c.if-x-lt10000.false (omega arith)) (put_then c.put_upper-end.ensures.0 c.put_last_digits.ensures.0)

@@ -1,8 +1,9 @@
 -- `put_short` meets its contract.
 use Prim.Native.Nat.{◌+◌}
 use native.Mathlib.Omega.{arith}
-use Rattle.text.proofs.DecimalLaws.{decimal-1, decimal-2, decimal-3, decimal-4}
-use Rattle.text.proofs.PlacesLaws.{put_one, put_same}
+use Rattle.text.proofs.DecimalLaws.{decimal-1, decimal-2, decimal-4}
+use Rattle.text.proofs.PlacesLaws.{put_one, put_same, put-fewer}
+use Rattle.figure_text.proofs.GroupLaws.{first-three}
 use Rattle.figure_text.proofs.put_short.Goals as goal
 
 pub returns-then-v-lt10 : goal.returns-then-v-lt10
@@ -11,12 +12,13 @@ returns-then-v-lt10 c =
 
 pub returns-then-v-lt100 : goal.returns-then-v-lt100
 returns-then-v-lt100 c =
-    (put_same (decimal-2 c.args.v (omega arith) (omega arith)) c.put_pair.ensures, omega arith)
+    let p = c.put_last_digits.ensures in (put_same (decimal-2 c.args.v (omega arith) (omega arith)) p.0, omega (arith, p.1))
 
 pub returns-then-v-lt1000 : goal.returns-then-v-lt1000
 returns-then-v-lt1000 c =
-    (put_same (decimal-3 c.args.v (omega arith) (omega arith)) c.put_three.ensures, omega arith)
+    let p = c.put_last_digits-then-v-lt1000.ensures in
+    (put_same (first-three c.args.v (omega arith) (omega arith)) (put-fewer 3 p.0 (omega arith) (omega (arith, p.1, p.0.ends))), omega arith)
 
 pub returns : goal.returns
 returns c =
-    (put_same (decimal-4 c.args.v (omega arith) (omega arith)) c.put_four.ensures, omega arith)
+    let p = c.put_last_digits-2.ensures in (put_same (decimal-4 c.args.v (omega arith) (omega arith)) p.0, omega (arith, p.1))
