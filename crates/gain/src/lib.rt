@@ -17,10 +17,10 @@ pub fn gain_of(noise: u64, variance: u64) -> u64
 }
 
 // How far the gain may be from the exact one.
+#[tactic(auto, unfolding(method::specs::Correction::gain_margin))]
 pub fn gain_margin_of(noise: u64, variance: Estimate) -> u64
     requires { (1 ≤ noise) × ((noise ≤ C) × EstimateFits variance) }
     ensures { (result ≡ gain_margin noise variance) × (result ≤ S) }
 {
-    let margin = SCALE * variance.margin / (variance.value + noise) + 2;
-    if SCALE < margin { SCALE } else { margin }
+    SCALE.min(SCALE * variance.margin / (variance.value + noise) + 2)
 }

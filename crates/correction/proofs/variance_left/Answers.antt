@@ -1,9 +1,7 @@
 -- `variance_left` meets its contract.
 use Prim.Native.Nat.{◌+◌}
-use mathlib.Core.Path.{refl}
 use native.Mathlib.Nat.{mul-le-mul}
 use native.Mathlib.Omega.{arith}
-use Rattle.method.specs.Correction.{corrected_variance}
 use Rattle.gain.proofs.GainLaws.{part-le}
 use Rattle.correction.proofs.variance_left.Goals as goal
 
@@ -17,7 +15,3 @@ pub overflow_add-result : goal.overflow_add-result
 overflow_add-result c =
     let a = c.args in
     omega (arith, c.requires.1.1.margin, part-le a.variance.margin a.noise (a.variance.value + a.noise) (omega arith))
-
-pub returns : goal.returns
-unfolding corrected_variance
-returns c = refl
