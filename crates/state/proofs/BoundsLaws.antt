@@ -1,19 +1,18 @@
 -- What rule 8 gives of a state that it accepts, and what it asks.
 use Prim.Native.Nat.{ℕ, ◌+◌, ◌≤◌, ◌<◌}
-use mathlib.Core.Bool.{Bool, true, false, cond, ◌&&◌, true≢false}
-use mathlib.Core.Logic.{◌≢◌, ⊎_elim}
-use mathlib.Core.Path.{◌≡◌, refl, sym, ap, ◌∙◌}
-use native.Mathlib.Nat.{eq-or-lt_of_le}
-use native.Mathlib.Omega.{arith}
-use borrow.Author.Tests.{leb-true, eqb-true, ne_eqb}
+use mathlib.Core.Bool.{true, ◌&&◌}
+use mathlib.Core.Path.{◌≡◌, sym, ap, ◌∙◌}
+use borrow.Author.Tests.{leb-true, eqb-true}
 use lib.Dec.{leb, eqb}
 use Rattle.units.specs.Units.{C}
 use Rattle.method.specs.declared.Figures.{Figures}
 use Rattle.method.specs.Figures.{FiguresFit}
 use Rattle.fields.proofs.RangeLaws.{both, all_three, all-four, all-at}
+use Rattle.std.specs.Prelude.{Option, Some, None}
+use Rattle.elements.specs.declared.Kind.{Kind}
+use Rattle.elements.specs.declared.Kind.TheVariants.{Basin, Reach, Dam, Tanks}
 use Rattle.elements.specs.declared.Element.{Element}
-use Rattle.elements.specs.Kinds.{basin, reach, dam, tanks, by_kind, same_kind}
-use Rattle.elements.proofs.KindLaws.{by-basin, by-reach, by-dam, by-none, kind-cases, ne-same}
+use Rattle.elements.specs.Kinds.{basin, by_kind, same_kind}
 use Rattle.table.specs.Tables.{TableValues}
 use Rattle.table.specs.KindCounts.{extra_count}
 use Rattle.cells.specs.Cells.{cell_at, cells}
@@ -22,8 +21,6 @@ use Rattle.state.specs.declared.Rains.{Rains}
 use Rattle.state.specs.States.{State, ElementState, elements_of, steps_of, figures_of, cell_figures, cell_rains, place_of}
 use Rattle.state.specs.Rules.{figures_fit, rains_fit, place_fits, elements_fit, tanks_fit, state_fits}
 use Rattle.state.specs.Bounds.{RainsUnder, StateBounds}
-use Rattle.std.specs.Prelude.{Option}
-use Rattle.elements.specs.declared.Kind.{Kind}
 
 figures-under : (f : Figures) → figures_fit f ≡ true → FiguresFit f
 unfolding figures_fit
@@ -44,54 +41,25 @@ rains-under r k =
 
 -- of one place
 module _ (kind : Option Kind) (p : ElementState) where
-  -- one that is no tanks
-  one_place :
-      kind ≢ tanks
-      → place_fits kind p
-      ≡ by_kind kind (figures_fit p.figures && rains_fit p.rains) (figures_fit p.figures) (figures_fit p.figures) false
-  unfolding place_fits
-  one_place n = rw (ne-same kind tanks n)
+  basin-place : kind ≡ basin → place_fits kind p ≡ (figures_fit p.figures && rains_fit p.rains)
+  unfolding place_fits same_kind by_kind
+  basin-place k = rw k
 
-  pub basin-place : kind ≡ basin → place_fits kind p ≡ (figures_fit p.figures && rains_fit p.rains)
-  basin-place k = one_place (λ t. omega (arith, k, t)) ∙ by-basin kind _ _ _ _ k
-
-  reach-place : kind ≡ reach → place_fits kind p ≡ figures_fit p.figures
-  reach-place k = one_place (λ t. omega (arith, k, t)) ∙ by-reach kind _ _ _ _ k
-
-  dam-place : kind ≡ dam → place_fits kind p ≡ figures_fit p.figures
-  dam-place k = one_place (λ t. omega (arith, k, t)) ∙ by-dam kind _ _ _ _ k
-
-  tanks-place : kind ≡ tanks → place_fits kind p ≡ figures_fit p.figures
-  unfolding place_fits
-  tanks-place k = rw k
-
-  -- any other than a basin
-  pub other_place : 2 ≤ kind → kind ≤ 4 → place_fits kind p ≡ figures_fit p.figures
-  other_place l m =
-      ⊎_elim (λ e. reach-place (sym e))
-      (λ n.
-      let three : 3 ≤ kind = omega (arith, n) in
-      ⊎_elim (λ e. dam-place (sym e)) (λ o. tanks-place (omega (arith, o, m))) (eq-or-lt_of_le three))
-      (eq-or-lt_of_le l)
-
-  pub none-place : kind ≢ basin → kind ≢ reach → kind ≢ dam → kind ≢ tanks → place_fits kind p ≡ false
-  none-place b r d t = one_place t ∙ by-none kind _ _ _ _ b r d
-
-  pub no-figures-fit : figures_fit p.figures ≡ false → place_fits kind p ≡ false
-  unfolding place_fits
-  no-figures-fit f = rw f (go (same_kind kind tanks))
+  -- whatever its kind, its figures fit
+  figures-first : place_fits kind p ≡ true → figures_fit p.figures ≡ true
+  unfolding place_fits same_kind by_kind
+  figures-first h = go kind h
     where
-      go : (x : Bool) → cond x false (by_kind kind false false false false) ≡ false
-      go true = refl
-      go false = kind-cases (λ (fit : Bool). fit ≡ false) kind (λ _. refl) (λ _. refl) (λ _. refl) (λ _ _ _. refl)
+      go : (k : Option Kind) → place_fits k p ≡ true → figures_fit p.figures ≡ true
+      go (Some Basin) e = (both (figures_fit p.figures) _ e).0
+      go (Some Reach) e = e
+      go (Some Dam) e = e
+      go (Some Tanks) e = e
+      go None e = cc
 
   module _ (h : place_fits kind p ≡ true) where
     place-figures : FiguresFit p.figures
-    place-figures = figures-under _ (go (figures_fit p.figures) refl)
-      where
-        go : (x : Bool) → figures_fit p.figures ≡ x → x ≡ true
-        go true e = refl
-        go false e = absurd (true≢false (sym h ∙ no-figures-fit e))
+    place-figures = figures-under _ (figures-first h)
 
     place-rains : kind ≡ basin → RainsUnder p.rains
     place-rains k =
@@ -129,7 +97,7 @@ module _ (t : TableValues) (s : State) (h : state_fits t s ≡ true) where
   unfolding place_of
   rains-at c (last i l e) k =
       rw (e, last-place t i l) (place-rains _ (place_of s i) (tested.place i l) (last-basin t i l (ap (λ (d : ℕ). (cell_at t d).kind) (sym e) ∙ k)))
-  rains-at c (inner i g n) k = absurd (omega (arith, inner-kind t g n, k))
+  rains-at c (inner i g n) k = cc (inner-kind t g n)
 
 pub state-bounds : (t : TableValues) (s : State) → state_fits t s ≡ true → StateBounds t s
 unfolding cells

@@ -12,6 +12,8 @@ use lib.ListN.{length, get_or}
 use lib.Seq.{ext_get_or}
 use Rattle.sizes.specs.Sizes.{most_places, state_numbers}
 use Rattle.method.specs.declared.Figures.{Figures}
+use Rattle.std.specs.Prelude.{Option}
+use Rattle.elements.specs.declared.Kind.{Kind}
 use Rattle.elements.specs.declared.Element.{Element}
 use Rattle.elements.specs.Kinds.{reach, by_kind}
 use Rattle.elements.proofs.KindLaws.{kind-both}
@@ -49,8 +51,6 @@ use Rattle.state.specs.States.{
   no_rains,
 }
 use Rattle.state.proofs.StateLaws.{
-use Rattle.std.specs.Prelude.{Option}
-use Rattle.elements.specs.declared.Kind.{Kind}
   PutsAt,
   PutsPlaces,
   puts-each,
@@ -105,7 +105,7 @@ same-state a b full also elements steps places = ext_get_or 0 a b (full ∙ sym 
 
 -- ---- the places after changes, each of which puts figures and, of a basin, rains at a place of its own
 
-unfoldable place_put : ℕ → Figures → Rains → ElementState → ElementState
+unfoldable place_put : Option Kind → Figures → Rains → ElementState → ElementState
 place_put kind f r p = record { figures = f; rains = by_kind kind r p.rains p.rains p.rains }
 
 place_is : (s : State) (i : ℕ) {f : Figures} {r : Rains} → figures_of s i ≡ f → rains_of s i ≡ r → place_of s i ≡ record { figures = f; rains = r }
@@ -127,7 +127,7 @@ place-put kind f r i s room =
 
 -- a reach's rains stay
 tank-put :
-    (k : ℕ) (a : Figures) (b : Rains) (d : Figures) (z : ElementState)
+    (k : Option Kind) (a : Figures) (b : Rains) (d : Figures) (z : ElementState)
     → k ≡ reach
     → a ≡ d
     → place_put k a b z ≡ place_put reach d no_rains z

@@ -1,5 +1,5 @@
 -- Document 01, Numbers for no, 8 and 9, and document 02, M-107.
-use Rattle.std.specs.Prelude.{ℕ, ◌+◌, Bool, false, not, cond, ◌&&◌, leb, eqb, Option}
+use Rattle.std.specs.Prelude.{◌+◌, Bool, false, not, cond, ◌&&◌, leb, eqb, Option}
 use Rattle.units.specs.Units.{C}
 use Rattle.method.specs.declared.Figures.{Figures}
 use Rattle.fields.specs.Ranges.{all_below}

@@ -102,6 +102,7 @@ fn rains_fit(r: Rains) -> bool
 }
 
 // Rule 8 on the place of element i: the rains of a basin alone are read.
+#[tactic(auto, unfolding(crate::specs::Rules::place_fits, crate::specs::States::place_of, elements::specs::Kinds::by_kind, elements::specs::Kinds::same_kind))]
 pub fn place_fits(state: &[u64; STATE_NUMBERS], i: usize, kind: Option<Kind>) -> bool
     requires { i < most_places }
     ensures { result ≡ place_fits kind (place_of state.now i) }
