@@ -10,9 +10,10 @@ use native.Mathlib.Omega.{arith}
 use lib.ListN.{length, take, drop, replicate, length-drop, length-replicate}
 use lib.Seq.{paste, take_all, take-append-le, drop-append-le}
 use Rattle.sizes.specs.Sizes.{most_elements, most_leads, answer_numbers}
+use Rattle.refusal.specs.Refusals.{number}
 use Rattle.refusal.specs.Answers.{accepted, refused}
 use Rattle.refusal.specs.declared.Refusal.{Refusal}
-use Rattle.refusal.specs.declared.Refusal.TheVariants.{AnswerSpace, AboveCeiling}
+use Rattle.refusal.specs.declared.Refusal.TheVariants.{AnswerSpace}
 use Rattle.refusal.proofs.RuleLaws.{not-both}
 use Rattle.method.specs.declared.Figures.{Figures}
 use Rattle.table.specs.declared.Counts.{Counts}
@@ -33,7 +34,7 @@ use Rattle.network.proofs.LentLaws.{space-refused, space-accepted, ceiling-refus
 use Rattle.answer_space.specs.Places.{figures_at, Empty}
 use Rattle.answer_space.proofs.EmptyLaws.{zeros-empty}
 use Rattle.network_leads.specs.Worked.{Given, spare_rows, space_size, LeadsHeld, LeadsWorked}
-use Rattle.leads.specs.Held.{answer_size, ForecastGiven, CopyReady, counted_by, Copied, ForecastHeld}
+use Rattle.leads.specs.Held.{answer_size, ForecastGiven, CopyReady, Copied, ForecastHeld}
 use Rattle.leads.proofs.LayoutLaws.{figures-after, answer-laid}
 
 -- ---- what is given, and the numbers that a river needs
@@ -156,8 +157,8 @@ too_small t s = space-refused (answer_size t) (lead_numbers t s t.leads) (foreca
 module _
     (t : TableValues) (s : State) (out : List ℕ) (fits : answer_size t ≤ length out) {v : Result Unit Refusal} {space : List ℕ}
     (h : LeadsWorked v space t s) where
-  pub not-copied : {j : Refusal} → v ≡ Err j → Copied false t s out out
-  unfolding leads_answer space_fits counted_by
+  pub not-copied : {j : Refusal} → v ≡ Err j → Copied (Err j) t s out out
+  unfolding leads_answer space_fits
   not-copied e = none-copied (answer_size t) (lead_numbers t s t.leads) (forecast_figures t s) out fits h.verdict e
 
   -- all of the answer
@@ -166,22 +167,13 @@ module _
       → from ≡ 4 * (t.leads + 1)
       → needed ≡ answer_size t
       → after ≡ paste out 0 (take (length space - from) (drop from space)) needed
-      → v ≡ (Ok tt)
-      → Copied true t s out after
-  unfolding leads_answer space_fits counted_by
+      → v ≡ Ok tt
+      → Copied (Ok needed) t s out after
+  unfolding leads_answer space_fits
   copied room {from} start size a e =
       all-copied (answer_size t) (lead_numbers t s t.leads) (forecast_figures t s) out fits h.verdict
       (take (length space - from) (drop from space)) (layout-size t s)
-      (rw (part-is t space room start) (laid t space room s (h.held e))) size a e refl
-
--- the answer by what was copied
-pub lent_by :
-    (t : TableValues) (s : State) (under : Bool) {out after : List ℕ} {r : Result ℕ Refusal} {needed : ℕ}
-    → Copied under t s out after
-    → needed ≡ answer_size t
-    → r ≡ counted_by under needed
-    → Lent r after (leads_answer t s (length out)) out
-lent_by t s under h size c = rw (c, size) h
+      (rw (part-is t space room start) (laid t space room s (h.held e))) size a e size
 
 -- ---- the answer where it was worked out
 
@@ -196,7 +188,7 @@ module _
   unfolding leads_answer space_fits
   answer-accepted e = space-accepted (answer_size t) _ _ answer_numbers fits h.verdict e
 
-  answer-refused : {j : Refusal} → v ≡ Err j → leads_answer t s answer_numbers ≡ refused 16
+  answer-refused : {j : Refusal} → v ≡ Err j → leads_answer t s answer_numbers ≡ refused (number j)
   unfolding leads_answer space_fits
   answer-refused e = ceiling-refused (answer_size t) _ _ answer_numbers fits h.verdict e
 
@@ -220,7 +212,7 @@ module _
           ∙ take-append-le (answer_size t) (drop (4 * (t.leads + 1)) worked) rest
           (omega (arith, long, space-is t, length-drop (4 * (t.leads + 1)) worked))
 
-  pub held-refused : {j : Refusal} → v ≡ Err j → ForecastHeld (Err AboveCeiling) (worked ++ rest) t s
+  pub held-refused : {j : Refusal} → v ≡ Err j → ForecastHeld (Err j) (worked ++ rest) t s
   held-refused e =
       record {
         count = written-refused (answer-refused e);

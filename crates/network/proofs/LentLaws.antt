@@ -12,9 +12,9 @@ use lib.Seq.{paste}
 use Rattle.refusal.specs.Refusals.{number}
 use Rattle.refusal.specs.Answers.{Answer, accepted, refused, rule, answer_of}
 use Rattle.refusal.specs.declared.Refusal.{Refusal}
-use Rattle.refusal.specs.declared.Refusal.TheVariants.{AnswerSpace, AboveCeiling}
+use Rattle.refusal.specs.declared.Refusal.TheVariants.{AnswerSpace}
 use Rattle.units.specs.Ceiling.{under_ceiling}
-use Rattle.units.proofs.CeilingLaws.{same-accepted, same-refused}
+use Rattle.units.proofs.CeilingLaws.{same-accepted, same-refused-number}
 use Rattle.method.specs.declared.Figures.{Figures}
 use Rattle.table.specs.Rules.{table_rules}
 use Rattle.table.proofs.TableLaws.{rules-accepted, rules-refused}
@@ -43,11 +43,10 @@ module _ (bytes : List ℕ) (rest : Answer (List Figures)) where
   lent-table k h = lent-as (rules-accepted bytes rest k) h
 
   pub lent-table-refused :
-      (before : List ℕ) (v : Result Unit Refusal) (k : Refusal)
-      → answer_of v ≡ table_rules {A = Unit} bytes (accepted tt)
-      → v ≡ Err k
+      (before : List ℕ) (k : Refusal)
+      → table_rules {A = Unit} bytes (accepted tt) ≡ refused (number k)
       → Lent (Err k) before (table_rules bytes rest) before
-  lent-table-refused before v k h e = lent-refused before _ k (rules-refused bytes rest (sym h ∙ ap answer_of e))
+  lent-table-refused before k h = lent-refused before _ k (rules-refused bytes rest h)
 
 -- the count of an answer
 pub written-accepted :
@@ -90,13 +89,13 @@ module _ (size : ℕ) (ns : List ℕ) (fs : List Figures) where
     space-accepted e = rw (le-leb _ _ fits) (same-accepted tt fs _ (sym (ap answer_of e) ∙ decided)).1
 
     -- 16
-    pub ceiling-refused : {j : Refusal} → v ≡ Err j → space_answer room ≡ refused 16
-    ceiling-refused e = rw (le-leb _ _ fits) (same-refused tt fs _ (sym (ap answer_of e) ∙ decided))
+    pub ceiling-refused : {j : Refusal} → v ≡ Err j → space_answer room ≡ refused (number j)
+    ceiling-refused e = rw (le-leb _ _ fits) (same-refused-number tt fs _ (sym decided ∙ ap answer_of e))
 
   -- nothing is written, or the figures are copied
   module _ (out : List ℕ) (fits : size ≤ length out) {v : Result Unit Refusal} (decided : answer_of v ≡ under_ceiling ns tt) where
-    pub none-copied : {j : Refusal} → v ≡ Err j → Lent (Err AboveCeiling) out (space_answer (length out)) out
-    none-copied e = lent-refused out _ AboveCeiling (ceiling-refused (length out) fits decided e)
+    pub none-copied : {j : Refusal} → v ≡ Err j → Lent (Err j) out (space_answer (length out)) out
+    none-copied {j} e = lent-refused out _ j (ceiling-refused (length out) fits decided e)
 
     pub all-copied :
         (part : List ℕ) {after : List ℕ} {needed count : ℕ}

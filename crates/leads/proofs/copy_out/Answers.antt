@@ -44,9 +44,9 @@ work_leads-requires c =
     let p = c.requires in
     (with-weights p.0.given c.put_weights.ensures, record { room = p.0.space; empty = p.1 })
 
-pub returns-in_default : goal.returns-in_default
-returns-in_default c =
-    not-copied _ _ _ c.requires.0.answer c.work_leads.ensures c.in_default.is
+pub returns-in_err-work_leads : goal.returns-in_err-work_leads
+returns-in_err-work_leads c =
+    not-copied _ _ _ c.requires.0.answer c.work_leads.ensures c.in_err-work_leads.is
 
 pub copy_numbers-requires : goal.copy_numbers-requires
 copy_numbers-requires c =
@@ -57,4 +57,4 @@ pub returns : goal.returns
 returns c =
     let p = c.requires.0 in
     copied _ _ _ p.answer c.work_leads.ensures (room-2 c) (answer-start p.given) (size-2 c) c.copy_numbers.ensures
-    c.in-Accepted.is
+    c.in_ok-work_leads.is

@@ -1,8 +1,7 @@
--- `forecast_in` meets its contract: it calls itself once.
+-- `forecast_in` meets its contract.
 use Prim.Native.Nat.{ℕ, ◌+◌, ◌*◌, ◌≤◌, min}
 use mathlib.Core.List.{List}
-use mathlib.Core.Bool.{Bool, cond}
-use mathlib.Core.Path.{◌≡◌, sym, ap, ◌∙◌}
+use mathlib.Core.Path.{◌≡◌, sym, ◌∙◌}
 use native.Mathlib.Omega.{arith}
 use lib.ListN.{length, take}
 use lib.Seq.{length-take-le}
@@ -13,7 +12,7 @@ use Rattle.state.specs.States.{State}
 use Rattle.network_leads.specs.Worked.{space_size}
 use Rattle.leads.specs.Held.{ForecastGiven}
 use Rattle.leads.proofs.AnswerLaws.{given, with-weights, answer-size, space-size, held-accepted, held-refused}
-use Rattle.leads.proofs.+forecast_in.Goals as goal
+use Rattle.leads.proofs.forecast_in.Goals as goal
 
 -- the part of the space that is worked in
 part-long :
@@ -35,36 +34,32 @@ part-size :
     → length (take room space) ≡ space_size (table_in bytes)
 part-size g space e r most size = part-long space most size ∙ space-size g e r
 
-pub forecast_in-requires : goal.forecast_in-requires
-forecast_in-requires t c =
-    (omega (arith, ap (λ (b : Bool). cond {A = ℕ} b 1 0) c.if-again.true), c.requires)
-
 pub slice_bounds-part-end-2 : goal.slice_bounds-part-end-2
-slice_bounds-part-end-2 t c = sym (part-long c.args.space.now c.space_numbers-room.ensures.1 c.requires.1.1)
+slice_bounds-part-end-2 c = sym (part-long c.args.space.now c.space_numbers-room.ensures.1 c.requires.1.1)
 
 pub work_leads-requires : goal.work_leads-requires
-work_leads-requires t c =
+work_leads-requires c =
     let p = c.requires in
     let r = c.space_numbers-room.ensures in (
       with-weights (given p.0.counted p.1.0) p.0.weights,
       record {
-        room = omega (arith, c.clear.auto.space, part-size (given p.0.counted p.1.0) c.args.space.now p.0.counted.extra r.0 r.1 p.1.1);
-        empty = c.clear.ensures;
+        room = omega (arith, c.fill.auto.space, part-size (given p.0.counted p.1.0) c.args.space.now p.0.counted.extra r.0 r.1 p.1.1);
+        empty = c.fill.ensures;
       },
     )
 
-pub returns-in_default : goal.returns-in_default
-returns-in_default t c =
+pub returns-in_err-work_leads : goal.returns-in_err-work_leads
+returns-in_err-work_leads c =
     let p = c.requires in
     let r = c.space_numbers-room.ensures in
     held-refused _ _ p.0.counted.counted.table.bounds _ _
-    (omega (arith, c.work_leads.auto.space, c.clear.auto.space, part-size (given p.0.counted p.1.0) c.args.space.now p.0.counted.extra r.0 r.1 p.1.1))
-    c.work_leads.ensures c.in_default.is
+    (omega (arith, c.work_leads.auto.space, c.fill.auto.space, part-size (given p.0.counted p.1.0) c.args.space.now p.0.counted.extra r.0 r.1 p.1.1))
+    c.work_leads.ensures c.in_err-work_leads.is
 
 pub returns : goal.returns
-returns t c =
+returns c =
     let p = c.requires in
     let r = c.space_numbers-room.ensures in
     held-accepted _ _ p.0.counted.counted.table.bounds _ _
-    (omega (arith, c.work_leads.auto.space, c.clear.auto.space, part-size (given p.0.counted p.1.0) c.args.space.now p.0.counted.extra r.0 r.1 p.1.1))
-    c.work_leads.ensures (answer-size (given p.0.counted p.1.0) c.answer_numbers-needed.ensures.0) c.in-Accepted.is
+    (omega (arith, c.work_leads.auto.space, c.fill.auto.space, part-size (given p.0.counted p.1.0) c.args.space.now p.0.counted.extra r.0 r.1 p.1.1))
+    c.work_leads.ensures (answer-size (given p.0.counted p.1.0) c.answer_numbers-needed.ensures.0) c.in_ok-work_leads.is
