@@ -32,7 +32,7 @@ use Rattle.state.proofs.AnswerLaws.{answered-accepted, answered-refused}
 use Rattle.state.proofs.BoundsLaws.{state-bounds}
 use Rattle.network.specs.Step.{stepped}
 use Rattle.element_weights.specs.Weights.{WeightsHeld}
-use Rattle.network_step.specs.Held.{StepReady, place_count, Cleared, under_verdict, StepWorked}
+use Rattle.network_step.specs.Held.{StepReady, place_count, Cleared, StepWorked}
 use Rattle.network_step.proofs.StepLaws.{cleared}
 use Rattle.entries.specs.Entries.{step_rules, step_on_answer}
 use Rattle.entries.specs.Trials.{trial_space_fits}
@@ -76,11 +76,6 @@ module _ {A : Type 0} (t : TableValues) (bytes : List ℕ) (s : State) (lent : �
   pub worked-refused : {k : ℕ} → worked_answer {A = Unit} t bytes s lent tt ≡ refused k → worked_answer t bytes s lent a ≡ refused k
   worked-refused h = rw (← worked_then, h)
 
-none_passes : (under : Bool) → under_verdict under ≡ (Ok tt) → under ≡ true
-unfolding under_verdict
-none_passes true e = refl
-none_passes false e = absurd (not-both (ap answer_of e) refl)
-
 -- what the verdict before 15 and 16 says of them
 module _ (t : TableValues) (bytes : List ℕ) (s : State) {v : Result Unit Refusal} {observed : List ℕ} (h : StepJudged t bytes s v observed) where
   -- a refusal before them
@@ -113,20 +108,17 @@ module _ (t : TableValues) (bytes : List ℕ) (s : State) {v : Result Unit Refus
 
     -- and 16
     pub after-judged :
-        {lent : ℕ} {under : Bool} {space : List ℕ} (answer : Bool)
+        {lent : ℕ} {r : Result Unit Refusal} {space : List ℕ}
         → 4 * t.elements ≤ lent
-        → StepWorked under space t bytes s
-        → under ≡ answer
-        → RecordWorked (under_verdict answer) space t bytes s lent
+        → StepWorked r space t bytes s
+        → RecordWorked r space t bytes s lent
     unfolding worked_answer trial_space_fits
-    after-judged answer l w f =
+    after-judged l w =
         record {
-          decided =
-              ap (λ (u : Bool). answer_of (under_verdict u)) (sym f)
-              ∙ (w.decided ∙ sym (step-rules.step-accepted t bytes s _ judged ∙ rw (le-leb _ _ l)));
+          decided = w.decided ∙ sym (step-rules.step-accepted t bytes s _ judged ∙ rw (le-leb _ _ l));
           kept = λ _. h.kept accepts;
           enough = λ _. l;
-          held = λ a. w.held (f ∙ none_passes answer a);
+          held = w.held;
           whole = h.whole;
         }
 
@@ -223,6 +215,16 @@ pub river-given :
 river-given p f =
     let c = p.counted in
     record { accepts = c.table; elements = c.held.elements; extra_all = p.extra; basins_all = c.basins; dams_all = c.dams; fits = f }
+
+-- what writing the state relies on, of a river that was worked out
+pub write-given :
+    {table bytes space : List ℕ} {n extra basins dams : ℕ} {s : State} {v : Result Unit Refusal}
+    → RiverGiven table n extra basins dams s
+    → 4 * (n + extra + 1) ≤ length space
+    → RecordWorked v space (table_in table) bytes s (4 * n)
+    → WriteGiven v table n extra bytes space s
+write-given g room w =
+    record { accepts = g.accepts; elements = g.elements; extra_all = g.extra_all; fits = g.fits; room = room; worked = w }
 
 -- spaces of any sizes that are large enough
 module _ {table : List ℕ} {n extra basins dams : ℕ} {s : State} (g : RiverGiven table n extra basins dams s) where
