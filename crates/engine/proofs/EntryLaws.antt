@@ -32,11 +32,10 @@ start-accepted bytes s after k h = answered-accepted refl (table-laws.rules-acce
 
 -- an answer that the table's rules refuse
 pub refused-by-table :
-    (bytes : List ℕ) (rest : Answer State) (s : State) (v : Result Unit Refusal) (k : Refusal)
+    (bytes : List ℕ) (rest : Answer State) (s : State) (k : Refusal)
     → table_rules {A = Unit} bytes (accepted tt) ≡ refused (number k)
-    → v ≡ Err k
-    → Answered v s (table_rules bytes rest) s
-refused-by-table bytes rest s v k h e = answered-refused e (table-laws.rules-refused bytes rest h) refl
+    → Answered (Err k) s (table_rules bytes rest) s
+refused-by-table bytes rest s k h = answered-refused refl (table-laws.rules-refused bytes rest h) refl
 
 -- ---- the step
 

@@ -10,7 +10,7 @@ use native.Mathlib.Nat.{mul-one}
 use native.Mathlib.Omega.{arith}
 use lib.ListN.{length, take, drop, length-drop}
 use lib.Seq.{paste}
-use Rattle.sizes.specs.Sizes.{most_places}
+use Rattle.sizes.specs.Sizes.{most_elements, most_places}
 use Rattle.refusal.specs.declared.Refusal.{Refusal}
 use Rattle.refusal.specs.declared.Refusal.TheVariants.{StateRange}
 use Rattle.table.specs.Tables.{TableValues}
@@ -35,11 +35,7 @@ use Rattle.entries.specs.Entries.{step_rules}
 use Rattle.entries.specs.Trials.{state_figures, tried_answer}
 use Rattle.record_step.specs.Judged.{worked_answer, RiverGiven, RecordWorked}
 use Rattle.record_step.proofs.StepLaws.{worked-accepted, worked-refused}
-use Rattle.trial.specs.Held.{AnswerReady, FiguresWritten, TrialHeld}
-
--- a verdict has one refusal
-pub same-refusal : {v : Result Unit Refusal} {j k : Refusal} → v ≡ Err j → v ≡ Err k → j ≡ k
-same-refusal p q = cc
+use Rattle.trial.specs.Held.{TrialHeld}
 
 -- so many tanks above the last of their elements
 pub all-tanks :
@@ -117,27 +113,14 @@ module _ (table bytes : List ℕ) (s : State) where
           layout-size (laid (w.held e)) is a is
 
   -- the answer by what was worked out
-  module _ {n extra basins dams : ℕ} (g : RiverGiven table n extra basins dams s) where
-    pub answer-ready :
-        {v : Result Unit Refusal} {space out : List ℕ}
-        → RecordWorked v space t bytes s (length out)
-        → 4 * (n + 1) ≤ length space
-        → AnswerReady v n space out
-    answer-ready w room =
-        record {
-          few = omega (arith, g.elements, g.accepts.bounds.elements_most);
-          room = room;
-          enough = λ e. omega (arith, w.enough e, g.elements);
-        }
+  module _ {n extra basins dams : ℕ} (g : RiverGiven table n extra basins dams s) {v : Result Unit Refusal} {space out : List ℕ}
+      (w : RecordWorked v space t bytes s (length out)) where
+    pub figures-ready : 4 * (n + 1) ≤ length space → v ≡ Ok tt → (n ≤ most_elements) × ((4 * (n + 1) ≤ length space) × (4 * n ≤ length out))
+    figures-ready room e = (omega (arith, g.elements, g.accepts.bounds.elements_most), (room, omega (arith, w.enough e, g.elements)))
 
-    pub trial-held :
-        (v : Result Unit Refusal) (space out : List ℕ) {r : Result ℕ Refusal} {after : List ℕ}
-        → RecordWorked v space t bytes s (length out)
-        → 4 * (n + 1) ≤ length space
-        → FiguresWritten v n space out r after
-        → TrialHeld r after table bytes s out
-    trial-held (Ok tt) space out w room h =
-        let a = h.written refl in
-        rw a.0
-        (all-written out w g.accepts.bounds.places_most (omega (arith, g.elements)) refl (ap (λ (k : ℕ). 4 * k) g.elements) a.1)
-    trial-held (Err k) space out w room h = let a = h.kept k refl in rw (a.0, a.1) (rules-refused out w k refl)
+    pub trial-refused : {k : Refusal} → v ≡ Err k → TrialHeld (Err k) out table bytes s out
+    trial-refused {k} e = rules-refused out w k e
+
+    pub trial-accepted : {after : List ℕ} → 4 * (n + 1) ≤ length space → v ≡ Ok tt → after ≡ paste out 0 (drop 4 space) (4 * n) → TrialHeld (Ok (4 * n)) after table bytes s out
+    trial-accepted room e a =
+        all-written out w g.accepts.bounds.places_most (omega (arith, room, g.elements)) e (ap (λ (k : ℕ). 4 * k) g.elements) a

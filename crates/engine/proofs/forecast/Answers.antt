@@ -4,16 +4,13 @@ use Rattle.network.proofs.LentLaws.{lent-table, lent-table-refused}
 use Rattle.entries.specs.Entries.{forecast_answer}
 use Rattle.engine.proofs.forecast.Goals as goal
 
+pub returns-in_err-counts : goal.returns-in_err-counts
+unfolding forecast_answer
+returns-in_err-counts c = lent-table-refused _ _ _ _ c.in_err-counts.ensures
+
 pub forecast_counted-requires : goal.forecast_counted-requires
-forecast_counted-requires c =
-    (table-accepted _ _ c.read-read.ensures c.in-Accepted.is).counted
+forecast_counted-requires c = (table-accepted _ _ c.in_ok-counts.ensures).counted
 
-pub returns-in-Accepted : goal.returns-in-Accepted
+pub returns : goal.returns
 unfolding forecast_answer
-returns-in-Accepted c =
-    lent-table _ _ (table-accepted _ _ c.read-read.ensures c.in-Accepted.is).kept c.forecast_counted.ensures
-
-pub returns-in-Refused : goal.returns-in-Refused
-unfolding forecast_answer
-returns-in-Refused c =
-    lent-table-refused _ _ _ _ _ c.read-read.ensures.verdict c.in-Refused.is
+returns c = lent-table _ _ (table-accepted _ _ c.in_ok-counts.ensures).kept c.forecast_counted.ensures

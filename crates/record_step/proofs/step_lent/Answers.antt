@@ -36,3 +36,10 @@ work_step-requires c =
           (omega (arith, c.judge_step.auto, known.table.bounds.gauges_most)),
       record { room = omega (arith, c.fill.auto, part-long c.requires, known.held.elements, p.weighed.counted.extra); none = none-at c.fill.ensures },
     )
+
+-- what writing the state relies on, and 16
+pub returns-in_err-work_step : goal.returns-in_err-work_step
+returns-in_err-work_step c =
+    let held = c.requires.weighed.counted.counted.held in
+    written-refused _ _ _ (after-judged _ _ _ c.judge_step.ensures c.in_ok-judge_step.is (omega (arith, held.elements)) c.work_step.ensures)
+    (ap (λ (n : ℕ). 4 * n) held.elements) c.in_err-work_step.is
