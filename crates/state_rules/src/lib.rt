@@ -3,13 +3,16 @@
 
 ghost use Rattle.std.specs.Prelude.{◌≡◌, ◌+◌, ◌≤◌};
 ghost use Rattle.sizes.specs.Sizes.{most_places};
+ghost use Rattle.refusal.specs.Answers.{accepted, answer_of, rule};
 ghost use Rattle.fields.specs.Ranges.{all_below};
 ghost use Rattle.table.specs.Bounds.{AcceptedTable};
 ghost use Rattle.table.specs.InUse.{table_in};
+ghost use Rattle.table.specs.KindCounts.{extra_count};
 ghost use Rattle.state.specs.States.{figures_of, place_of};
-ghost use Rattle.state.specs.Rules.{figures_fit, place_fits, elements_fit};
+ghost use Rattle.state.specs.Rules.{figures_fit, place_fits, elements_fit, state_fits};
 
 use elements::kind_at;
+use refusal::Refusal;
 use sizes::STATE_NUMBERS;
 use state::{figures_fit, figures_of, place_fits};
 
@@ -52,4 +55,24 @@ pub fn state_fits(table: &[u8], n: usize, state: &[u64; STATE_NUMBERS]) -> bool
         return false;
     }
     places_fit(table, n, state)
+}
+
+// Rule 8 whole, by the bytes of an accepted table of n elements with so many extra tanks.
+#[inline(always)]
+pub fn judge_state(
+    table: &[u8],
+    n: usize,
+    extra: usize,
+    state: &[u64; STATE_NUMBERS],
+) -> Result<(), Refusal>
+    requires { AcceptedTable table.now × ((n ≡ (table_in table.now).elements) × (extra ≡ extra_count (table_in table.now))) }
+    ensures { answer_of result ≡ rule 8 (state_fits (table_in table.now) state.now) (accepted tt) }
+{
+    if !state_fits(table, n, state) {
+        return Err(Refusal::StateRange);
+    }
+    if !tanks_fit(n, extra, state) {
+        return Err(Refusal::StateRange);
+    }
+    Ok(())
 }
