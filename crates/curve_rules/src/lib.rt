@@ -4,52 +4,24 @@
 ghost use Rattle.std.specs.Prelude.{◌≡◌};
 ghost use Rattle.gauges.specs.Gauges.{curve_at};
 ghost use Rattle.gauges.specs.Places.{GaugeThere};
-ghost use Rattle.gauges.specs.Rules.{offset_fits, offset_zero, piece_in_use_fits, piece_unused, curve_fits};
+ghost use Rattle.gauges.specs.Rules.{piece_in_use_fits, piece_unused, curve_fits};
 ghost use Rattle.curve_rules.specs.Judged.{Counted, InUseKept, InUseJudged};
 
 use fields::bytes::wide;
 use fields::range::in_range;
 use gauges::piece_at;
-use rating::{Offset, Piece};
-
-fn offset_fits(offset: Offset) -> bool
-    ensures { result ≡ offset_fits offset }
-{
-    match offset {
-        Offset::Plus(b) => b <= 30_000,
-        Offset::Minus(b) => b <= 30_000,
-    }
-}
-
-fn offset_zero(offset: Offset) -> bool
-    ensures { result ≡ offset_zero offset }
-{
-    match offset {
-        Offset::Plus(b) => b == 0,
-        Offset::Minus(b) => b == 0,
-    }
-}
+use rating::Piece;
 
 fn piece_in_use_fits(below: u64, piece: Piece) -> bool
     ensures { result ≡ piece_in_use_fits below piece }
 {
-    let top = piece.top;
-    let offset = piece.offset;
-    if top.0 <= below {
-        return false;
-    }
-    if !in_range(piece.factor, 1, 1_000_000) {
-        return false;
-    }
-    offset_fits(offset)
+    below < piece.top.0 && in_range(piece.factor, 1, 1_000_000) && piece.offset.size() <= 30_000
 }
 
 fn piece_unused(piece: Piece) -> bool
     ensures { result ≡ piece_unused piece }
 {
-    let top = piece.top;
-    let offset = piece.offset;
-    (top.0 == 0) & (piece.factor == 0) & offset_zero(offset)
+    (piece.top.0 == 0) & (piece.factor == 0) & (piece.offset.size() == 0)
 }
 
 // Whether the pieces in use of the gauge at a place keep rule 7, the last of their tops with them.
@@ -63,8 +35,7 @@ fn pieces_in_use_fit(table: &[u8], at: usize, count: usize) -> bool
         if !piece_in_use_fits(below, piece) {
             return false;
         }
-        let top = piece.top;
-        below = top.0;
+        below = piece.top.0;
     }
     below == 30_001
 }
@@ -74,12 +45,7 @@ fn pieces_unused(table: &[u8], at: usize, count: usize) -> bool
     requires { Counted table.now at count × InUseKept (curve_at table.now at) }
     ensures { result ≡ curve_fits (curve_at table.now at) }
 {
-    for j in count..5 {
-        if !piece_unused(piece_at(table, at + 6 + 8 * j)) {
-            return false;
-        }
-    }
-    true
+    (count..5).all(|j| piece_unused(piece_at(table, at + 6 + 8 * j)))
 }
 
 // Rule 7 on the curve of the gauge whose bytes start at a place.
@@ -87,15 +53,10 @@ pub fn curve_fits(table: &[u8], at: usize) -> bool
     requires { GaugeThere table.now at }
     ensures { result ≡ curve_fits (curve_at table.now at) }
 {
-    let count = wide(table[at + 1]) as usize;
-    if count < 1 {
+    let pieces = wide(table[at + 1]);
+    if !in_range(pieces, 1, 5) {
         return false;
     }
-    if 5 < count {
-        return false;
-    }
-    if !pieces_in_use_fit(table, at, count) {
-        return false;
-    }
-    pieces_unused(table, at, count)
+    let count = pieces as usize;
+    pieces_in_use_fit(table, at, count) && pieces_unused(table, at, count)
 }

@@ -1,6 +1,6 @@
 -- Laws of the tests that the rules are made of.
 use Prim.Native.Nat.{ℕ, zero, suc, ◌+◌, ◌≤◌, ◌<◌}
-use mathlib.Core.Bool.{Bool, true, false, cond, ◌&&◌, ◌||◌}
+use mathlib.Core.Bool.{Bool, true, false, cond, ◌&&◌, ◌||◌, and-true, and_assoc}
 use mathlib.Core.Logic.{◌⊎◌, inl, inr, ⊎_elim}
 use mathlib.Core.Path.{◌≡◌, refl, sym, ◌∙◌}
 use borrow.Author.Tests.{leb-true}
@@ -8,6 +8,7 @@ use native.Mathlib.Nat.{eq-or-lt_of_le}
 use native.Mathlib.Numerals.{add-one}
 use native.Mathlib.Omega.{arith}
 use lib.Dec.{leb}
+use Rattle.std.specs.List.{list_all, range_with_len}
 use Rattle.fields.specs.Ranges.{in_range, all_below}
 
 -- tests that hold together
@@ -93,6 +94,20 @@ module _ (test : ℕ → Bool) where
   pub all_more : (n : ℕ) {all one : Bool} → all ≡ all_below test n → one ≡ test n → (all && one) ≡ all_below test (n + 1)
   unfolding all_below
   all_more n h k = rw (add-one, h, k)
+
+-- `all` over the numbers from a on by a test that agrees there, after the tests below a
+module _ (test one : ℕ → Bool) where
+  pub all-range :
+      (a n : ℕ)
+      → ((k : ℕ) → a ≤ k → k < a + n → one k ≡ test k)
+      → (all_below test a && list_all one (range_with_len a n)) ≡ all_below test (a + n)
+  unfolding all_below
+  all-range a zero h = let e : a + 0 ≡ a = omega arith in rw (e, and-true (all_below test a))
+  all-range a (suc n) h =
+      let more = all_more test a {all = all_below test a} refl (h a (omega arith) (omega arith)) in
+      let next : a + 1 + n ≡ a + suc n = omega arith in
+      let rest = all-range (a + 1) n (λ k l m. h k (omega arith) (omega arith)) in
+      rw (← and_assoc (all_below test a) (one a), more, rest, next)
 
 -- tests that agree below n
 pub all_same : (one other : ℕ → Bool) (n : ℕ) → ((k : ℕ) → k < n → one k ≡ other k) → all_below one n ≡ all_below other n

@@ -1,48 +1,34 @@
 -- `curve_fits` meets its contract.
+use Prim.Native.Nat.{ℕ, ◌+◌}
+use mathlib.Core.Bool.{true}
+use mathlib.Core.List.{List}
 use mathlib.Core.Path.{◌≡◌, sym}
-use native.Mathlib.Omega.{arith}
+use Rattle.fields.specs.Bytes.{byte_at}
+use Rattle.fields.specs.Ranges.{in_range}
+use Rattle.fields.proofs.RangeLaws.{range-bounds}
 use Rattle.gauges.specs.Gauges.{curve_at}
-use Rattle.curve_rules.proofs.CurveLaws.{count_low, count-high}
+use Rattle.gauges.specs.Places.{GaugeThere}
+use Rattle.curve_rules.specs.Judged.{Counted}
+use Rattle.curve_rules.proofs.CurveLaws.{count-out}
 use Rattle.curve_rules.proofs.curve_fits.Goals as goal
 
-counted : (c : goal.Then-count-lt1) → c.wide-count.result ≡ (curve_at c.args.table.now c.args.at).count
+counted :
+    (table : List ℕ) (at : ℕ) {count : ℕ}
+    → GaugeThere table at
+    → count ≡ byte_at table (at + 1)
+    → true ≡ in_range count 1 5
+    → Counted table at count
 unfolding curve_at
-counted c = c.wide-count.ensures.0
+counted table at {count} there is h =
+    let k = range-bounds count 1 5 (sym h) in
+    record { there = there; least = k.0; most = k.1; counted = is }
 
-counted-2 : (c : goal.Then-count-gt5) → c.wide-count.result ≡ (curve_at c.args.table.now c.args.at).count
+pub returns-then-not-in_range : goal.returns-then-not-in_range
 unfolding curve_at
-counted-2 c = c.wide-count.ensures.0
-
-counted-3 : (c : goal.Else-count-gt5) → c.wide-count.result ≡ (curve_at c.args.table.now c.args.at).count
-unfolding curve_at
-counted-3 c = c.wide-count.ensures.0
-
-counted-4 : (c : goal.Else-not-pieces_in_use_fit) → c.wide-count.result ≡ (curve_at c.args.table.now c.args.at).count
-unfolding curve_at
-counted-4 c = c.wide-count.ensures.0
-
-pub returns-then-count-lt1 : goal.returns-then-count-lt1
-returns-then-count-lt1 c = count_low _ (omega (arith, counted c, c.if-count-lt1.true))
-
-pub returns-then-count-gt5 : goal.returns-then-count-gt5
-returns-then-count-gt5 c =
-    let e = counted-2 c in
-    count-high _ (omega (arith, c.if-count-lt1.false)) (omega (arith, c.if-count-gt5.true))
+returns-then-not-in_range c = count-out (curve_at c.args.table.now c.args.at) (rw (← c.wide-pieces.ensures.0) (sym c.if-not-in_range.ensures))
 
 pub pieces_in_use_fit-requires : goal.pieces_in_use_fit-requires
-pieces_in_use_fit-requires c =
-    record { there = c.requires; least = omega (arith, c.if-count-lt1.false); most = omega (arith, c.if-count-gt5.false); counted = counted-3 c }
-
-pub returns-then-not-pieces_in_use_fit : goal.returns-then-not-pieces_in_use_fit
-returns-then-not-pieces_in_use_fit c = sym (c.pieces_in_use_fit.ensures.broken (c.if-not-pieces_in_use_fit.true))
+pieces_in_use_fit-requires c = counted _ _ c.requires c.wide-pieces.ensures.0 c.if-not-in_range.ensures
 
 pub pieces_unused-requires : goal.pieces_unused-requires
-pieces_unused-requires c = (
-  record {
-    there = c.requires;
-    least = omega (arith, c.if-count-lt1.false);
-    most = omega (arith, c.if-count-gt5.false);
-    counted = counted-4 c;
-  },
-  c.pieces_in_use_fit.ensures.kept (c.if-not-pieces_in_use_fit.false),
-)
+pieces_unused-requires c = (counted _ _ c.requires c.wide-pieces.ensures.0 c.if-not-in_range.ensures, c.pieces_in_use_fit.ensures.kept c.if-pieces_in_use_fit.true)

@@ -1,18 +1,14 @@
 -- `piece_in_use_fits` meets its contract.
-use mathlib.Core.Path.{sym, ◌∙◌}
-use borrow.Author.Tests.{lt-ltb, le-ltb}
+use Rattle.std.proofs.Common.{rules}
 use Rattle.gauges.specs.Rules.{piece_in_use_fits}
+use Rattle.curve_rules.proofs.CurveLaws.{offset-fits}
+use Rattle.curve_rules.proofs.piece_in_use_fits.Goals.{then-below-piece, else-below-piece}
 use Rattle.curve_rules.proofs.piece_in_use_fits.Goals as goal
 
-pub returns-then-top-below : goal.returns-then-top-below
+pub returns-then-in_range : goal.returns-then-in_range
 unfolding piece_in_use_fits
-returns-then-top-below c = rw (le-ltb _ _ c.if-top-below.true)
+returns-then-in_range c = let o = offset-fits c.args.piece.offset in elim c.if-below-piece.branch [ then-below-piece w ↦ search rules | else-below-piece w ↦ search rules ]
 
-pub returns-then-not-in_range : goal.returns-then-not-in_range
+pub returns-else-in_range : goal.returns-else-in_range
 unfolding piece_in_use_fits
-returns-then-not-in_range c = rw (lt-ltb _ _ c.if-top-below.false, sym c.in_range.ensures ∙ c.if-not-in_range.true)
-
-pub returns : goal.returns
-unfolding piece_in_use_fits
-returns c =
-    rw (lt-ltb _ _ c.if-top-below.false, sym c.in_range.ensures ∙ c.if-not-in_range.false) c.offset_fits.ensures
+returns-else-in_range c = elim c.if-below-piece.branch [ then-below-piece w ↦ search rules | else-below-piece w ↦ search rules ]

@@ -1,5 +1,4 @@
 -- The loop of `pieces_in_use_fit`.
--- `pieces_in_use_fit` meets its contract.
 use Prim.Native.Nat.{◌≤◌}
 use mathlib.Core.Bool.{true}
 use mathlib.Core.Path.{◌≡◌}
