@@ -15,27 +15,26 @@ use state::{Rains, put_figures, put_rains};
 use units::{Discharge, Variance};
 
 // The first values, margins 0.
+#[tactic(auto, unfolding(state::specs::Start::first_figures))]
 fn first_figures(e: Element) -> Figures
     ensures { result ≡ first_figures e }
 {
-    let discharge = e.first_discharge;
-    let variance = e.first_variance;
     Figures {
-        discharge,
+        discharge: e.first_discharge,
         discharge_margin: Discharge(0),
-        variance,
+        variance: e.first_variance,
         variance_margin: Variance(0),
     }
 }
 
 // The place of element i at the start: its first values, and a basin's rains 0.
+#[tactic(auto, unfolding(state::specs::Start::first_put, state::specs::States::put_place, elements::specs::Kinds::by_kind))]
 fn put_first(state: &mut [u64; STATE_NUMBERS], i: usize, e: Element)
     requires { i < most_places }
     ensures { state.new ≡ first_put e i state.old }
 {
-    let kind = e.kind;
     put_figures(&mut *state, i, first_figures(e));
-    match kind {
+    match e.kind {
         Some(Kind::Basin) => {
             let dry = Rains {
                 first: 0,

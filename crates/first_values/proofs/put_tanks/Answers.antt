@@ -1,5 +1,4 @@
 -- `put_tanks` meets its contract.
-use mathlib.Core.Path.{◌≡◌}
 use native.Mathlib.Omega.{arith}
 use Rattle.state.proofs.StateLaws.{changed-none, figures-put-more}
 use Rattle.first_values.proofs.put_tanks.Goals as goal
@@ -10,8 +9,3 @@ loop-j-init c = (omega arith, changed-none _ _)
 pub loop-j-preserved : goal.loop-j-preserved
 loop-j-preserved c =
     (omega arith, figures-put-more (λ _. _) _ _ _ c.loop-j.invariant.1 c.put_figures.ensures)
-
-pub returns : goal.returns
-returns c =
-    let e : c.loop-j.j ≡ c.args.extra = omega arith in
-    rw e at c.loop-j.invariant.1
