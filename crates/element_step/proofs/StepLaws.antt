@@ -1,14 +1,13 @@
 -- Laws of the step of one element: rule 16 on its inflow, its move and its correction, one after the other; each kind.
 use Rattle.rating.specs.declared.RatedReading.{RatedReading}
-use Rattle.std.specs.Prelude.{Result, Ok, Err, Option, None}
+use Rattle.std.specs.Prelude.{Option, None}
 use Prim.Native.Nat.{ℕ, ◌≤◌}
 use mathlib.Core.List.{append_assoc, append-nil}
-use mathlib.Core.Path.{◌≡◌, sym, ap, ◌∙◌}
+use mathlib.Core.Path.{◌≡◌, sym, ◌∙◌}
 use native.Mathlib.Omega.{arith}
-use Rattle.refusal.specs.Answers.{Answer, accepted, refused, answer_of}
-use Rattle.refusal.specs.declared.Refusal.{Refusal}
+use Rattle.refusal.specs.Answers.{Answer, accepted, refused}
 use Rattle.units.specs.Units.{C}
-use Rattle.units.proofs.CeilingLaws.{same-accepted, refused-append, accepted-append}
+use Rattle.units.proofs.CeilingLaws.{same-accepted, refused-append, accepted-append, passed-on}
 use Rattle.units.proofs.UnderLaws.{under-accepted}
 use Rattle.weighting.specs.declared.Estimate.{Estimate}
 use Rattle.method.specs.declared.Figures.{Figures}
@@ -35,48 +34,46 @@ use Rattle.element_step.specs.ElementStep.{
   stored_numbers,
   element_numbers,
 }
+use Rattle.element_step.specs.Bounds.{tank_element}
 use Rattle.element_step.specs.Answers.{corrected_answer, moved_answer, stored_answer, own_at, element_answer}
 
 -- a move with an inflow that was judged
-module _ (H : ℕ) (e : Element) (inflow old : Figures) {r : Result Figures Refusal} (judged : answer_of r ≡ inflow_answer inflow) where
+module _ (H : ℕ) (e : Element) (inflow old : Figures) where
   -- the inflow refuses
-  pub inflow-passes : {k : Refusal} → r ≡ Err k → refused 16 ≡ moved_answer H e inflow old
+  pub inflow-passes : {k : ℕ} → refused k ≡ inflow_answer inflow → refused k ≡ moved_answer H e inflow old
   unfolding moved_answer inflow_answer
-  inflow-passes p = sym (refused-append _ _ _ _ (sym (ap answer_of p) ∙ judged))
+  inflow-passes r = passed-on _ _ r (refused-append _ _ _ _ r)
 
   -- it does not: the move decides
   pub inflow-accepted :
       {x : Figures} {q : Estimate} {v : Answer Estimate} {answer : Answer Figures}
-      → r ≡ Ok x
+      → accepted x ≡ inflow_answer inflow
       → q ≡ routed_discharge H x old
       → v ≡ parts_answer H e.system_noise.0 (variance x) (variance old)
       → answer ≡ routed_answer q v
       → answer ≡ moved_answer H e inflow old
   unfolding moved_answer moved inflow_answer routing_answer
-  inflow-accepted p d w f =
-      let a = sym (ap answer_of p) ∙ judged in
+  inflow-accepted a d w f =
       let s = same-accepted _ inflow _ a in
       move-answered _ _ _ _ d w f ∙ rw s.0 (sym (accepted-append _ _ _ _ a))
 
 -- a move that was judged, and then the correction
 module _ (H : ℕ) (e : Element) (o : Option RatedReading) (inflow old : Figures) where
-  module _ {r : Result Figures Refusal} (judged : answer_of r ≡ moved_answer H e inflow old) where
-    -- the move refuses
-    pub move-passes : {k : Refusal} → r ≡ Err k → refused 16 ≡ stored_answer H e o inflow old
-    unfolding stored_answer stored_numbers move_numbers moved_answer
-    move-passes p = rw (← append_assoc) (sym (refused-append _ _ _ _ (sym (ap answer_of p) ∙ judged)))
+  -- the move refuses
+  pub move-passes : {k : ℕ} → refused k ≡ moved_answer H e inflow old → refused k ≡ stored_answer H e o inflow old
+  unfolding stored_answer stored_numbers move_numbers moved_answer
+  move-passes r = passed-on _ _ r (rw (← append_assoc) (refused-append _ _ _ _ r))
 
-    -- it does not: the correction decides
-    pub move-accepted :
-        {x : Figures} {after : Answer Figures}
-        → r ≡ Ok x
-        → after ≡ corrected_answer o x
-        → after ≡ stored_answer H e o inflow old
-    unfolding stored_answer stored_numbers stored move_numbers moved_answer corrected_answer
-    move-accepted p k =
-        let a = sym (ap answer_of p) ∙ judged in
-        let s = same-accepted _ old _ a in
-        k ∙ rw (s.0, ← append_assoc) (sym (accepted-append _ _ _ _ a))
+  -- it does not: the correction decides
+  pub move-accepted :
+      {x : Figures} {after : Answer Figures}
+      → accepted x ≡ moved_answer H e inflow old
+      → after ≡ corrected_answer o x
+      → after ≡ stored_answer H e o inflow old
+  unfolding stored_answer stored_numbers stored move_numbers moved_answer corrected_answer
+  move-accepted a k =
+      let s = same-accepted _ old _ a in
+      k ∙ rw (s.0, ← append_assoc) (sym (accepted-append _ _ _ _ a))
 
   -- where nothing is observed the move is all
   pub move-alone : o ≡ None → moved_answer H e inflow old ≡ stored_answer H e o inflow old
@@ -141,8 +138,11 @@ module _ (H : ℕ) (e : Element) (intake : Intake) (old : Figures) where
   unfolding element_answer stored_answer
   basin-answered k l = rw (l, basin-judged H e own o above old k, basin-steps H e own o above old k, own-basin k)
 
-  pub reach-answered : e.kind ≡ reach → stored_answer H e o (reach_inflow intake.above) old ≡ element_answer H e intake old
-  unfolding element_answer stored_answer
+  -- of a reach the move looks at its system noise alone
+  pub reach-answered :
+      e.kind ≡ reach
+      → stored_answer H (tank_element e.system_noise.0) o (reach_inflow intake.above) old ≡ element_answer H e intake old
+  unfolding element_answer stored_answer stored_numbers move_numbers stored moved
   reach-answered k = rw (reach-judged H e own o above old k, reach-steps H e own o above old k)
 
   pub dam-answered :

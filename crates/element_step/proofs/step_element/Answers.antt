@@ -1,49 +1,46 @@
 -- `step_element` meets its contract.
-use borrow.Author.Rules.{rules}
-use mathlib.Core.Path.{sym, ◌∙◌}
+use mathlib.Core.Path.{◌≡◌, sym, ◌∙◌}
+use Rattle.std.proofs.Common.{rules}
+use Rattle.std.proofs.lemmas.Result.{err_from_is_err_and}
 use Rattle.method.specs.Figures.{AnsweredFiguresFit}
-use Rattle.method.proofs.FiguresLaws.{accepted-fits}
-use Rattle.elements.proofs.KindLaws.{no_other}
+use Rattle.elements.specs.Kinds.{basin, reach, dam}
 use Rattle.element_step.proofs.StepLaws.{move-passes, move-accepted, basin-answered, reach-answered, dam-answered}
 use Rattle.element_step.proofs.step_element.Goals as goal
 
-pub returns-in_default-step_basin : goal.returns-in_default-step_basin
+pub returns-in_err-move_basin-in-Some-Basin : goal.returns-in_err-move_basin-in-Some-Basin
 unfolding AnsweredFiguresFit
-returns-in_default-step_basin c =
-    (move-passes _ _ _ _ _ c.step_basin.ensures.0 c.in_default-step_basin.is ∙ basin-answered _ _ _ _ c.in-1.is (sym c.requires.1), tt)
+returns-in_err-move_basin-in-Some-Basin c =
+    let k : c.args.e.kind ≡ basin = search rules in
+    let p = err_from_is_err_and c.from_residual.result c.from_residual.ensures.1 in
+    rw (p.1, p.2) (move-passes _ _ _ _ _ c.in_err-move_basin-in-Some-Basin.ensures.0 ∙ basin-answered _ _ _ _ k (sym c.requires.1), tt)
 
-pub correct_by-requires : goal.correct_by-requires
-correct_by-requires c =
-    (c.requires.0.observation, accepted-fits c.in-Accepted.is c.step_basin.ensures.1)
-
-pub returns-in_default-step_reach : goal.returns-in_default-step_reach
+pub returns-in_err-move_reach-in-Some-Reach : goal.returns-in_err-move_reach-in-Some-Reach
 unfolding AnsweredFiguresFit
-returns-in_default-step_reach c =
-    (move-passes _ _ _ _ _ c.step_reach.ensures.0 c.in_default-step_reach.is ∙ reach-answered _ _ _ _ c.in-2.is, tt)
+returns-in_err-move_reach-in-Some-Reach c =
+    let k : c.args.e.kind ≡ reach = search rules in
+    let p = err_from_is_err_and c.from_residual-in_err-move_reach-in-Some-Reach.result c.from_residual-in_err-move_reach-in-Some-Reach.ensures.1 in
+    rw (p.1, p.2) (move-passes _ _ _ _ _ c.in_err-move_reach-in-Some-Reach.ensures.0 ∙ reach-answered _ _ _ _ k, tt)
 
-pub correct_by-requires-in-2 : goal.correct_by-requires-in-2
-correct_by-requires-in-2 c =
-    (c.requires.0.observation, accepted-fits c.in-Accepted-step_reach.is c.step_reach.ensures.1)
+pub returns-in_ok-move_basin-in-Some-Basin : goal.returns-in_ok-move_basin-in-Some-Basin
+returns-in_ok-move_basin-in-Some-Basin c =
+    let k : c.args.e.kind ≡ basin = search rules in (
+      move-accepted _ _ _ _ _ c.in_ok-move_basin-in-Some-Basin.ensures.0 c.correct_by.ensures.0
+          ∙ basin-answered _ _ _ _ k (sym c.requires.1),
+      c.correct_by.ensures.1,
+    )
 
-pub returns-in-Accepted : goal.returns-in-Accepted
-returns-in-Accepted c = (
-  move-accepted _ _ _ _ _ c.step_basin.ensures.0 c.in-Accepted.is c.correct_by.ensures.0 ∙ basin-answered _ _ _ _ c.in-1.is (sym c.requires.1),
-  c.correct_by.ensures.1,
-)
+pub returns-in_ok-move_reach-in-Some-Reach : goal.returns-in_ok-move_reach-in-Some-Reach
+returns-in_ok-move_reach-in-Some-Reach c =
+    let k : c.args.e.kind ≡ reach = search rules in (
+      move-accepted _ _ _ _ _ c.in_ok-move_reach-in-Some-Reach.ensures.0 c.correct_by-in-Some-Reach.ensures.0
+          ∙ reach-answered _ _ _ _ k,
+      c.correct_by-in-Some-Reach.ensures.1,
+    )
 
-pub returns-in-Accepted-step_reach : goal.returns-in-Accepted-step_reach
-returns-in-Accepted-step_reach c = (
-  move-accepted _ _ _ _ _ c.step_reach.ensures.0 c.in-Accepted-step_reach.is c.correct_by-in-2.ensures.0 ∙ reach-answered _ _ _ _ c.in-2.is,
-  c.correct_by-in-2.ensures.1,
-)
-
-pub returns-in-3 : goal.returns-in-3
+pub returns-in-Some-Dam : goal.returns-in-Some-Dam
 unfolding AnsweredFiguresFit
-returns-in-3 c =
+returns-in-Some-Dam c =
     let p = c.requires.0 in
-    let d = dam-answered _ _ _ _ c.in-3.is (p.release c.in-3.is) p.move.element.system_noise in
+    let k : c.args.e.kind ≡ dam = search rules in
+    let d = dam-answered _ _ _ _ k (p.release k) p.move.element.system_noise in
     (rw c.dam_figures.ensures d.0, rw c.dam_figures.ensures d.1)
-
-pub returns-in_default : goal.returns-in_default
-returns-in_default c =
-    absurd (no_other c.requires.0.move.element.kind (search rules) (search rules) (search rules))
