@@ -22,7 +22,7 @@ fn put_short(out: &mut [u8], at: usize, v: u32, fours: &[u32]) -> usize
     }
     if v < 1_000 {
         // One store of four bytes, the last of which does not count.
-        put_last_digits::<4>(&mut *out, at, 10 * v, fours);
+        put_last_digits::<4>(out, at, 10 * v, fours);
         return at + 3;
     }
     put_last_digits::<4>(out, at, v, fours)
@@ -37,7 +37,7 @@ fn put_upper(out: &mut [u8], at: usize, v: u32, fours: &[u32]) -> usize
         return put_short(out, at, v, fours);
     }
     let first = v / 10_000;
-    let end = put_short(&mut *out, at, first, fours);
+    let end = put_short(out, at, first, fours);
     put_last_digits::<4>(out, end, v - 10_000 * first, fours)
 }
 
@@ -50,7 +50,7 @@ fn put_decimal(out: &mut [u8], at: usize, x: u32, fours: &[u32]) -> usize
         return put_short(out, at, x, fours);
     }
     let upper = x / 10_000;
-    let end = put_upper(&mut *out, at, upper, fours);
+    let end = put_upper(out, at, upper, fours);
     put_last_digits::<4>(out, end, x - 10_000 * upper, fours)
 }
 
@@ -59,7 +59,7 @@ pub fn put_figure(out: &mut [u8], at: usize, x: u32, after: u8, fours: &[u32]) -
     requires { (at + 21 ≤ length out.old) × (fours.now ≡ fours_below 10000) }
     ensures { Put out.old at (decimal x ++ after ∷ []) out.new result × (result ≤ at + 21) }
 {
-    let end = put_decimal(&mut *out, at, x, fours);
+    let end = put_decimal(out, at, x, fours);
     out[end] = after;
     end + 1
 }

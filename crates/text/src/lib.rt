@@ -17,7 +17,7 @@ fn put_digits(out: &mut [u8], at: usize, x: u64) -> usize
         out[at] = (48 + x) as u8;
         return at + 1;
     }
-    let next = put_digits(&mut *out, at, x / 10);
+    let next = put_digits(out, at, x / 10);
     out[next] = (48 + x % 10) as u8;
     next + 1
 }
@@ -27,7 +27,7 @@ pub fn put_number(out: &mut [u8], at: usize, x: u64, after: u8) -> usize
     requires { at + 21 ≤ length out.old }
     ensures { Put out.old at (decimal x ++ after ∷ []) out.new result × (result ≤ at + 21) }
 {
-    let end = put_digits(&mut *out, at, x);
+    let end = put_digits(out, at, x);
     out[end] = after;
     end + 1
 }
@@ -72,7 +72,7 @@ pub fn put_small(out: &mut [u8], at: usize, x: u32, after: u8, fours: &[u32]) ->
         out[at + 1] = after;
         return at + 2;
     }
-    let end = put_last_digits::<2>(&mut *out, at, x, fours);
+    let end = put_last_digits::<2>(out, at, x, fours);
     out[end] = after;
     end + 1
 }
