@@ -22,7 +22,7 @@ pub fn answer_refusal(refusal: Refusal, steps: u64, out: &mut [u8], at: usize) -
     ensures { TextAnswered result out.old at out.new (refusal_line steps (number refusal)) (leb (number refusal) 10) }
 {
     let code = refusal.code();
-    let end = put_refusal(&mut *out, at, steps, code);
+    let end = put_refusal(out, at, steps, code);
     TextAnswer {
         end,
         ended: code <= 10,
