@@ -1,3 +1,2 @@
 pub mod PlacesLaws
-pub mod CopyLaws
 pub mod EmptyLaws

@@ -12,6 +12,7 @@ use method::Figures;
 use units::{Discharge, Variance};
 
 // The four numbers at a place.
+#[tactic(auto, unfolding(crate::specs::Places::figures_at))]
 pub fn figures_at(numbers: &[u64], place: usize) -> Figures
     requires { 4 * place + 3 < length numbers.now }
     ensures { result ≡ figures_at numbers.now place }
@@ -25,38 +26,28 @@ pub fn figures_at(numbers: &[u64], place: usize) -> Figures
 }
 
 // The figures of one element, four numbers at a place.
+#[tactic(auto, unfolding(crate::specs::Places::put))]
 pub fn put_figures(numbers: &mut [u64], place: usize, f: Figures)
     requires { 4 * place + 3 < length numbers.old }
     ensures { numbers.new ≡ put numbers.old place f }
 {
-    let q = f.discharge;
-    let e = f.discharge_margin;
-    let v = f.variance;
-    let d = f.variance_margin;
-    numbers[4 * place] = q.0;
-    numbers[4 * place + 1] = e.0;
-    numbers[4 * place + 2] = v.0;
-    numbers[4 * place + 3] = d.0;
+    numbers[4 * place] = f.discharge.0;
+    numbers[4 * place + 1] = f.discharge_margin.0;
+    numbers[4 * place + 2] = f.variance.0;
+    numbers[4 * place + 3] = f.variance_margin.0;
 }
 
 // Sums with an element's old or new figures more.
+#[tactic(auto, unfolding(method::specs::Inflow::joined_inflow))]
 fn joined(x: Figures, y: Figures) -> Figures
     requires { FiguresBelow x most_sum × FiguresFit y }
     ensures { result ≡ joined_inflow x y }
 {
-    let xq = x.discharge;
-    let xe = x.discharge_margin;
-    let xv = x.variance;
-    let xd = x.variance_margin;
-    let yq = y.discharge;
-    let ye = y.discharge_margin;
-    let yv = y.variance;
-    let yd = y.variance_margin;
     Figures {
-        discharge: Discharge(xq.0 + yq.0),
-        discharge_margin: Discharge(xe.0 + ye.0),
-        variance: Variance(xv.0 + yv.0),
-        variance_margin: Variance(xd.0 + yd.0),
+        discharge: Discharge(x.discharge.0 + y.discharge.0),
+        discharge_margin: Discharge(x.discharge_margin.0 + y.discharge_margin.0),
+        variance: Variance(x.variance.0 + y.variance.0),
+        variance_margin: Variance(x.variance_margin.0 + y.variance_margin.0),
     }
 }
 
@@ -65,7 +56,7 @@ pub fn add_figures(numbers: &mut [u64], place: usize, f: Figures)
     requires { (4 * place + 3 < length numbers.old) × (FiguresBelow (figures_at numbers.old place) most_sum × FiguresFit f) }
     ensures { numbers.new ≡ put numbers.old place (joined_inflow (figures_at numbers.old place) f) }
 {
-    let sums = figures_at(&*numbers, place);
+    let sums = figures_at(numbers, place);
     put_figures(numbers, place, joined(sums, f));
 }
 
@@ -74,7 +65,7 @@ pub fn put_and_add(numbers: &mut [u64], here: usize, below: usize, f: Figures)
     requires { PlacesReady numbers.old here below f }
     ensures { numbers.new ≡ put_and_added numbers.old here below f }
 {
-    put_figures(&mut *numbers, here, f);
+    put_figures(numbers, here, f);
     add_figures(numbers, below, f);
 }
 
@@ -82,10 +73,7 @@ pub fn put_and_add(numbers: &mut [u64], here: usize, below: usize, f: Figures)
 pub fn clear(space: &mut [u64])
     ensures { Empty space.new }
 {
-    let n = space.len();
-    for k in 0..n {
-        space[k] = 0;
-    }
+    space.fill(0);
 }
 
 // The answer's numbers, copied into the lent space.
@@ -93,9 +81,7 @@ pub fn copy_numbers(answer: &[u64], count: usize, out: &mut [u64])
     requires { (count ≤ length answer.now) × (count ≤ length out.old) }
     ensures { out.new ≡ paste out.old 0 answer.now count }
 {
-    for k in 0..count {
-        out[k] = answer[k];
-    }
+    out[..count].copy_from_slice(&answer[..count]);
 }
 
 // The figures of n elements, from place 1 on, put into the lent space one after the other.
@@ -103,7 +89,5 @@ pub fn write_figures(space: &[u64], n: usize, out: &mut [u64])
     requires { (n ≤ most_elements) × ((4 * (n + 1) ≤ length space.now) × (4 * n ≤ length out.old)) }
     ensures { out.new ≡ paste out.old 0 (drop 4 space.now) (4 * n) }
 {
-    for i in 0..n {
-        put_figures(&mut *out, i, figures_at(space, i + 1));
-    }
+    copy_numbers(&space[4..], 4 * n, out);
 }
