@@ -21,12 +21,7 @@ fn places_fit(table: &[u8], n: usize, state: &[u64; STATE_NUMBERS]) -> bool
     requires { AcceptedTable table.now × (n ≡ (table_in table.now).elements) }
     ensures { result ≡ all_below (λ i. place_fits ((table_in table.now).element i).kind (place_of state.now i)) (table_in table.now).elements }
 {
-    for i in 0..n {
-        if !place_fits(state, i, kind_at(table, i)) {
-            return false;
-        }
-    }
-    true
+    (0..n).all(|i| place_fits(state, i, kind_at(table, i)))
 }
 
 // Rule 8 on the places of the tanks above the last of their elements, after those of n elements.
@@ -34,27 +29,17 @@ pub fn tanks_fit(n: usize, extra: usize, state: &[u64; STATE_NUMBERS]) -> bool
     requires { n + extra ≤ most_places }
     ensures { result ≡ all_below (λ x. figures_fit (figures_of state.now (n + x))) extra }
 {
-    for x in 0..extra {
-        if !figures_fit(figures_of(state, n + x)) {
-            return false;
-        }
-    }
-    true
+    (0..extra).all(|x| figures_fit(figures_of(state, n + x)))
 }
 
 // Rule 8 on N, the step count and the places of the elements, by the bytes of an accepted table of n elements. (What it asks of tanks is judged
 // apart: in one function both take more instructions.)
+#[tactic(auto, unfolding(state::specs::Rules::elements_fit))]
 pub fn state_fits(table: &[u8], n: usize, state: &[u64; STATE_NUMBERS]) -> bool
     requires { AcceptedTable table.now × (n ≡ (table_in table.now).elements) }
     ensures { result ≡ elements_fit (table_in table.now) state.now }
 {
-    if state[0] != n as u64 {
-        return false;
-    }
-    if 10_000 < state[1] {
-        return false;
-    }
-    places_fit(table, n, state)
+    state[0] == n as u64 && state[1] <= 10_000 && places_fit(table, n, state)
 }
 
 // Rule 8 whole, by the bytes of an accepted table of n elements with so many extra tanks.
