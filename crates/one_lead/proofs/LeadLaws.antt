@@ -1,6 +1,7 @@
 -- What the code of one lead, or of a step, answers and leaves.
 use Rattle.rating.specs.declared.RatedReading.{RatedReading}
-use Rattle.std.specs.Prelude.{Result, Ok, Err, Option}
+use Rattle.std.specs.Prelude.{Result, Ok, Err, Option, IsErrAnd}
+use Rattle.std.proofs.lemmas.Result.{err_from_is_err_and}
 use Prim.Native.Nat.{ℕ, ◌+◌, ◌*◌, ◌<◌}
 use mathlib.Core.List.{List}
 use mathlib.Core.Logic.{◌≢◌}
@@ -8,11 +9,9 @@ use mathlib.Core.Path.{◌≡◌, refl, sym, ap, subst, ◌∙◌}
 use native.Mathlib.Omega.{arith}
 use lib.ListN.{length}
 use Rattle.refusal.specs.declared.Refusal.{Refusal}
-use Rattle.refusal.specs.declared.Refusal.TheVariants.{AboveCeiling}
 use Rattle.refusal.specs.Answers.{accepted, answer_of}
 use Rattle.refusal.proofs.RuleLaws.{not-both}
 use Rattle.units.specs.Ceiling.{under_ceiling}
-use Rattle.units.proofs.CeilingLaws.{same-refused}
 use Rattle.method.specs.declared.Figures.{Figures}
 use Rattle.method.specs.Figures.{FiguresFit, AnsweredFiguresFit}
 use Rattle.method.specs.Inflow.{reach_inflow, joined_inflow, old_outflow, old_and_new_outflow}
@@ -22,7 +21,7 @@ use Rattle.record.specs.Decoded.{ObservationFits}
 use Rattle.element_step.specs.Bounds.{tank_element, TankInRange}
 use Rattle.element_step.specs.ElementStep.{released}
 use Rattle.element_step.specs.Answers.{stored_answer, element_answer}
-use Rattle.element_step.proofs.StepLaws.{reach-answered, dam-answered}
+use Rattle.element_step.proofs.StepLaws.{reach-answered, dam-answered, released-fit}
 use Rattle.answer_space.specs.Places.{figures_at, put, added, put_and_added, most_sum, most_sum_before, FiguresBelow, PlacesReady}
 use Rattle.answer_space.proofs.PlacesLaws.{put-length, put-here, put_other, fits_below, below-most, joined-below}
 use Rattle.one_lead.specs.declared.ElementInput.{ElementInput}
@@ -161,15 +160,15 @@ module _
   unfolding element_answer lead_step lead_step_numbers
   known = rw (← read) answered.0
 
+  -- a refusal is passed on
   pub lead-refused :
-      {let_out : Figures → Figures} {k : Refusal} {after : List ℕ}
+      {let_out : Figures → Figures} {s : Result Figures Refusal} {k : Refusal} {after : List ℕ}
       → r ≡ Err k
-      → LeadWorked let_out (Err AboveCeiling) c lead old before after
-  lead-refused e =
-      record {
-        answer = sym (same-refused _ _ _ (sym (ap answer_of e) ∙ known));
-        kept = λ x a. absurd (not-both (ap answer_of a) refl);
-      }
+      → IsErrAnd s (λ (e : Refusal). e ≡ k)
+      → LeadWorked let_out s c lead old before after
+  lead-refused {s = s} e passed =
+      let p = err_from_is_err_and s passed in
+      rw (p.1, p.2) (record { answer = sym (ap answer_of e) ∙ known; kept = λ x a. absurd (not-both (ap answer_of a) refl) })
 
   module _ (x : Figures) (e : r ≡ Ok x) where
     pub lead-accepted :
@@ -182,8 +181,13 @@ module _
           kept = λ y v. subst (λ (z : Figures). LeadKept z (let_out z) lead before after) (same v) k;
         }
       where
-        same : {y : Figures} → Ok x ≡ Ok y → x ≡ y
+        same : {y : Figures} → ◌≡◌ {A = Result Figures Refusal} (Ok x) (Ok y) → x ≡ y
         same v = cc
+
+-- the release of a dam is in its range
+pub dam-fits :
+    {c : ElementInput} {x : Figures} → InputInRange c → c.element.kind ≡ dam → x ≡ released c.element c.own → FiguresFit x
+dam-fits r k is = rw is (released-fit _ _ (r.release k) r.element.system_noise)
 
 -- a dam at a lead: its release, whatever drains in
 module _ (c : ElementInput) (lead : Lead) (old : Figures) (before : List ℕ) (k : c.element.kind ≡ dam) (in_range : InputInRange c) where
@@ -236,9 +240,13 @@ module _
       × AnsweredFiguresFit r
   tank-answered number = (worked.0 ∙ reach-answered _ _ _ _ refl, worked.1)
 
-  pub tank-refused : {k : Refusal} {after : List ℕ} → r ≡ Err k → TankWorked (Err AboveCeiling) noise weight o here below old before after
-  tank-refused is =
-      record { at = λ number. lead-refused (tank_input noise weight o) _ old before above r read (tank-answered number) is }
+  pub tank-refused :
+      {s : Result Figures Refusal} {k : Refusal} {after : List ℕ}
+      → r ≡ Err k
+      → IsErrAnd s (λ (e : Refusal). e ≡ k)
+      → TankWorked s noise weight o here below old before after
+  tank-refused is passed =
+      record { at = λ number. lead-refused (tank_input noise weight o) _ old before above r read (tank-answered number) is passed }
 
   pub tank-accepted :
       (x : Figures) {after : List ℕ}

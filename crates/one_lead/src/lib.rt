@@ -8,12 +8,12 @@ ghost use Rattle.elements.specs.Kinds.{dam};
 ghost use Rattle.answer_space.specs.Places.{most_sum, most_sum_before};
 ghost use Rattle.one_lead.specs.Worked.{step_lead, LeadReady, LeadWorked, DamWorked, tank_input, TankWorked};
 
-use rating::RatedReading;
 use answer_space::{add_figures, figures_at, put_and_add};
 use element_step::{Intake, dam_figures, lead_element, step_element, step_tank};
 use elements::Element;
 use inflow::old_outflow;
 use method::Figures;
+use rating::RatedReading;
 use refusal::Refusal;
 
 // What a step or a forecast works out one element from: itself, its weight, its own number (a basin's inflow from rain, a dam's release, 0
@@ -37,17 +37,21 @@ pub struct Lead {
 
 // One lead of an element that stores water, from its figures before it: its figures, which now stand at its place, where what drains into it
 // stood.
-pub fn work_lead(input: ElementInput, lead: Lead, old: Figures, space: &mut [u64]) -> Result<Figures, Refusal>
+pub fn work_lead(
+    input: ElementInput,
+    lead: Lead,
+    old: Figures,
+    space: &mut [u64],
+) -> Result<Figures, Refusal>
     requires { LeadReady most_sum_before input lead old space.old × ((input.observation ≡ None) × (input.element.kind ≢ dam)) }
     ensures { LeadWorked (old_and_new_outflow old) result input lead old space.old space.new }
 {
     let above = figures_at(&*space, lead.here);
-    let observation = input.observation;
     let intake = Intake {
         own: input.own,
         lead: lead.number,
         above,
-        observation,
+        observation: input.observation,
     };
     let new = lead_element(input.element, input.weight, intake, old)?;
     add_figures(&mut *space, lead.below, old_outflow(old));
@@ -85,12 +89,11 @@ pub fn work_step(
     ensures { LeadWorked (λ x. x) result input (step_lead here below) old space.old space.new }
 {
     let above = figures_at(&*space, here);
-    let observation = input.observation;
     let intake = Intake {
         own: input.own,
         lead: 0,
         above,
-        observation,
+        observation: input.observation,
     };
     let new = step_element(input.element, input.weight, intake, old)?;
     put_and_add(&mut *space, here, below, new);

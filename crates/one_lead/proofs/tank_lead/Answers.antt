@@ -6,9 +6,9 @@ use Rattle.one_lead.proofs.tank_lead.Goals as goal
 pub step_tank-requires : goal.step_tank-requires
 step_tank-requires c = tank-ready c.requires
 
-pub returns-in_default : goal.returns-in_default
-returns-in_default c =
-    tank-refused _ _ _ _ _ _ _ _ _ c.figures_at-above.ensures c.step_tank.ensures c.in_default.is
+pub returns-in_err-new : goal.returns-in_err-new
+returns-in_err-new c =
+    tank-refused _ _ _ _ _ _ _ _ _ c.figures_at-above.ensures c.step_tank.ensures c.in_err-new.was c.from_residual.ensures.1
 
 pub add_figures-requires : goal.add_figures-requires
 add_figures-requires c = old-ready _ _ _ _ c.requires _ c.old_outflow.ensures
@@ -16,12 +16,12 @@ add_figures-requires c = old-ready _ _ _ _ c.requires _ c.old_outflow.ensures
 pub put_and_add-requires : goal.put_and_add-requires
 put_and_add-requires c =
     places-ready _ _ _ _ (new-ready _ _ _ _ c.requires _ c.old_outflow.ensures _ c.add_figures.ensures) _
-    (accepted-fits c.in-Accepted.is c.step_tank.ensures.1)
+    (accepted-fits c.in_ok-new.was c.step_tank.ensures.1)
 
 pub returns : goal.returns
 returns c =
     let read = c.figures_at-above.ensures in
-    let x = c.in-Accepted.is in
+    let x = c.in_ok-new.was in
     let ready = c.requires in
     tank-accepted _ _ _ _ _ _ _ _ _ read c.step_tank.ensures _ x
     (both-kept _ _ _ _ ready _ c.old_outflow.ensures _ c.add_figures.ensures

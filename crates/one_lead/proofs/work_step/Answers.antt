@@ -3,16 +3,16 @@ use Rattle.method.proofs.FiguresLaws.{accepted-fits}
 use Rattle.one_lead.proofs.LeadLaws.{lead-refused, places-ready, new-kept, lead-accepted}
 use Rattle.one_lead.proofs.work_step.Goals as goal
 
-pub returns-in_default : goal.returns-in_default
-returns-in_default c =
-    lead-refused _ _ _ _ _ _ c.figures_at-above.ensures c.step_element.ensures c.in_default.is
+pub returns-in_err-new : goal.returns-in_err-new
+returns-in_err-new c =
+    lead-refused _ _ _ _ _ _ c.figures_at-above.ensures c.step_element.ensures c.in_err-new.was c.from_residual.ensures.1
 
 pub put_and_add-requires : goal.put_and_add-requires
 put_and_add-requires c =
-    places-ready _ _ _ _ c.requires _ (accepted-fits c.in-Accepted.is c.step_element.ensures.1)
+    places-ready _ _ _ _ c.requires _ (accepted-fits c.in_ok-new.was c.step_element.ensures.1)
 
 pub returns : goal.returns
 returns c =
     let read = c.figures_at-above.ensures in
-    lead-accepted _ _ _ _ _ _ read c.step_element.ensures _ c.in-Accepted.is (λ y. y)
-    (new-kept _ _ _ _ c.requires _ (accepted-fits c.in-Accepted.is c.step_element.ensures.1) c.put_and_add.ensures)
+    lead-accepted _ _ _ _ _ _ read c.step_element.ensures _ c.in_ok-new.was (λ y. y)
+    (new-kept _ _ _ _ c.requires _ (accepted-fits c.in_ok-new.was c.step_element.ensures.1) c.put_and_add.ensures)
