@@ -11,15 +11,20 @@ ghost use Rattle.gauges.specs.Looks.{look_by, look_on};
 ghost use Rattle.gauges.specs.Places.{GaugeThere};
 ghost use Rattle.gauges.specs.Bounds.{GaugeBounds};
 
-use refusal::Refusal;
 use fields::bytes::{whole16, whole32};
 use gauges::{beta_at, piece_at};
 use rating::{CurveLook, RatedReading, noise_of, rate_on_piece};
-use units::Variance;
+use refusal::Refusal;
+use units::{Discharge, Variance};
 
 // What a piece gives for a stage, with the noise of a reading there at the gauge at a place, and with how many pieces were read. (β is read
 // before R: where a branch follows, the compiler puts R together byte by byte.)
-fn with_noise(table: &[u8], at: usize, answer: Result<Discharge, Refusal>, pieces: usize) -> CurveLook
+fn with_noise(
+    table: &[u8],
+    at: usize,
+    answer: Result<Discharge, Refusal>,
+    pieces: usize,
+) -> CurveLook
     requires { (GaugeThere table.now at × GaugeBounds most_elements (gauge_from table.now at)) × RatingFits (answer_of answer) }
     ensures { look_of result ≡ look_by (gauge_from table.now at) (answer_of answer) pieces }
 {

@@ -1,5 +1,4 @@
--- The loop of `look_along`.
--- `look_along` meets its contract: the stage has reached the tops of the pieces that were read before.
+-- The loop of `look_along`: the stage has reached the tops of the pieces that were read before.
 use Prim.Native.Nat.{◌-◌, ◌<◌}
 use Rattle.rating.specs.Rating.{pieces_of}
 use Rattle.rating.proofs.LookLaws.{TopsReached}
