@@ -85,7 +85,7 @@ module _ (size : ℕ) (ns : List ℕ) (fs : List Figures) where
   space-refused out h = lent-refused out (space_answer (length out)) AnswerSpace (rw (lt-leb _ _ h))
 
   module _ (room : ℕ) (fits : size ≤ room) {v : Result Unit Refusal} (decided : answer_of v ≡ under_ceiling ns tt) where
-    pub space-accepted : v ≡ (Ok tt) → space_answer room ≡ accepted fs
+    pub space-accepted : v ≡ Ok tt → space_answer room ≡ accepted fs
     space-accepted e = rw (le-leb _ _ fits) (same-accepted tt fs _ (sym (ap answer_of e) ∙ decided)).1
 
     -- 16
@@ -103,7 +103,7 @@ module _ (size : ℕ) (ns : List ℕ) (fs : List Figures) where
         → take size part ≡ layout fs
         → needed ≡ size
         → after ≡ paste out 0 part needed
-        → v ≡ (Ok tt)
+        → v ≡ Ok tt
         → count ≡ size
         → Lent (Ok count) after (space_answer (length out)) out
     all-copied part long laid is a e all = figures-lent out part (space-accepted (length out) fits decided e) long laid is a all

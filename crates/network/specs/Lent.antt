@@ -1,8 +1,7 @@
 -- Document 01, Numbers for no: "Where an answer is written into lent space, the count written is part of the answer and what
 -- lies after it stays."
 use Rattle.refusal.specs.declared.Refusal.{Refusal}
-use Rattle.std.specs.Prelude.{ℕ, List, [], ◌∷◌, ◌++◌, ◌≡◌, length, drop, Result, Ok, Err}
-use Rattle.refusal.specs.Refusals.{number}
+use Rattle.std.specs.Prelude.{ℕ, List, [], ◌∷◌, ◌++◌, ◌≡◌, length, drop, Result}
 use Rattle.refusal.specs.Answers.{Answer, accepted, refused, answer_of}
 use Rattle.method.specs.declared.Figures.{Figures}
 

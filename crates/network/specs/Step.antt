@@ -21,7 +21,7 @@ weight_of t i = by_kind (t.element i).kind (weight t.step (t.element i).lag) (we
 unfoldable pub network_down : TableValues → ℕ → ℕ
 network_down t i = (t.element i).down
 
-unfoldable pub network_cell : TableValues → (ℕ → Figures) → (ℕ → (Option RatedReading)) → ℕ → Figures → Figures → Figures
+unfoldable pub network_cell : TableValues → (ℕ → Figures) → (ℕ → Option RatedReading) → ℕ → Figures → Figures → Figures
 network_cell t own o i above old = element_step (weight_of t i) (t.element i) (own i) (o i) above old
 
 -- M-103: "the sum of old and new outflows above"
