@@ -1,5 +1,7 @@
 -- The leads of one element, one after the other.
-use Rattle.std.specs.Prelude.{Result, Ok, Err}
+use Prim.{Unit}
+use Rattle.std.specs.Prelude.{Result, Ok, Err, IsErrAnd}
+use Rattle.std.proofs.lemmas.Result.{err_from_is_err_and}
 use Rattle.refusal.specs.Answers.{answer_of}
 use Prim.Native.Nat.{ℕ, zero, suc, ◌+◌, ◌≤◌, ◌<◌}
 use mathlib.Core.List.{List}
@@ -12,10 +14,9 @@ use native.Mathlib.Omega.{arith}
 use lib.ListN.{length}
 use Rattle.sizes.specs.Sizes.{most_leads}
 use Rattle.refusal.specs.declared.Refusal.{Refusal}
-use Rattle.refusal.specs.declared.Refusal.TheVariants.{AboveCeiling}
 use Rattle.refusal.proofs.RuleLaws.{not-both}
 use Rattle.units.proofs.UnderLaws.{Under, none-under, parts-under, both_under, under-accepted, known_under, refused-whole}
-use Rattle.units.proofs.CeilingLaws.{same-accepted, same-refused}
+use Rattle.units.proofs.CeilingLaws.{same-accepted, same-refused, passed-on}
 use Rattle.method.specs.declared.Figures.{Figures}
 use Rattle.method.specs.Figures.{FiguresFit}
 use Rattle.method.specs.Inflow.{joined_inflow, old_outflow, old_and_new_outflow}
@@ -111,16 +112,19 @@ module _ (c : ElementInput) (first : Figures) (here below : ℕ) (before : List 
     module _ (r : Result Figures Refusal) (next : List ℕ) (w : LeadWorked (old_and_new_outflow old) r c (lead_at c here below m) old now next) where
       -- it is refused, and with it the element
       element-refused :
-          {k : Refusal}
+          {s : Result Unit Refusal} {k : Refusal}
           → r ≡ Err k
-          → ElementWorked (Err AboveCeiling) c first here below leads before next
-      element-refused e =
-          record {
+          → IsErrAnd s (λ (e : Refusal). e ≡ k)
+          → ElementWorked s c first here below leads before next
+      element-refused {s} e passed =
+          let p = err_from_is_err_and s passed in
+          let a = sym (ap answer_of e) ∙ w.answer in
+          rw (p.1, p.2) (record {
             verdict =
-                refused-whole tt _ (numbers leads) (λ u. rw numbers-are (part_of c first _ m leads less u))
-                (sym (same-refused _ tt _ (sym (ap answer_of e) ∙ w.answer)));
-            done = λ a. absurd (not-both (ap answer_of a) refl);
-          }
+                passed-on _ _ a
+                (sym (refused-whole tt _ (numbers leads) (λ u. rw numbers-are (part_of c first _ m leads less u)) (sym (same-refused _ tt _ a))));
+            done = λ d. absurd (not-both (ap answer_of d) refl);
+          })
 
       module _ (x : Figures) (e : r ≡ Ok x) where
         step-known : (x ≡ lead_step c (c.first_lead + m) (figures_at now (here + m)) old) × Under (lead_part c first (drained_at before here) m)
@@ -220,8 +224,12 @@ module _
 
   module _ (r : Result Figures Refusal) (next : List ℕ) (w : LeadWorked (old_and_new_outflow old) r c (lead_at c here below k) old now next) where
     -- it is refused, and with it the element
-    pub leads-refused : {n : Refusal} → r ≡ Err n → ElementWorked (Err AboveCeiling) c first here below leads before next
-    leads-refused e = element-refused c first here below before k leads now old h.done h.is less places.apart r next w e
+    pub leads-refused :
+        {s : Result Unit Refusal} {n : Refusal}
+        → r ≡ Err n
+        → IsErrAnd s (λ (e : Refusal). e ≡ n)
+        → ElementWorked s c first here below leads before next
+    leads-refused e passed = element-refused c first here below before k leads now old h.done h.is less places.apart r next w e passed
 
     -- one lead more
     pub leads-again : {x : Figures} → r ≡ Ok x → LeadsSoFar c first here below leads before (k + 1) next x
@@ -274,9 +282,12 @@ module _
 
   -- it is refused
   pub work-step-refused :
-      {k : Refusal} → r ≡ Err k → ElementWorked (Err AboveCeiling) c first here below 1 before after
-  work-step-refused e =
-      element-refused _ _ _ _ _ _ 1 _ _ begun (first-is c first here below before) (omega arith) apart _ _ worked e
+      {s : Result Unit Refusal} {k : Refusal}
+      → r ≡ Err k
+      → IsErrAnd s (λ (e : Refusal). e ≡ k)
+      → ElementWorked s c first here below 1 before after
+  work-step-refused e passed =
+      element-refused _ _ _ _ _ _ 1 _ _ begun (first-is c first here below before) (omega arith) apart _ _ worked e passed
 
   -- it is done
   pub work-step-done : {x : Figures} → r ≡ Ok x → LeadsDone c first here below 1 before after

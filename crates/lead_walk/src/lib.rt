@@ -6,10 +6,10 @@ ghost use Rattle.elements.specs.Kinds.{dam};
 ghost use Rattle.one_lead.specs.Worked.{tank_input};
 ghost use Rattle.lead_walk.specs.Worked.{LeadsReady, TankReady, LeadsDone, ElementWorked};
 
-use rating::RatedReading;
 use elements::Kind;
 use method::Figures;
 use one_lead::{ElementInput, Lead, hold_lead, tank_lead, work_lead};
+use rating::RatedReading;
 use refusal::Refusal;
 
 // All leads of an element that stores water, from its figures before the first: its own places and those of the element below begin at
@@ -25,16 +25,14 @@ fn store_element(
     requires { LeadsReady input first here below leads space.old × (input.element.kind ≢ dam) }
     ensures { ElementWorked result input first here below leads space.old space.new }
 {
-    let first_number = input.first_lead;
     let mut old = first;
     for k in 0..leads {
         let lead = Lead {
-            number: first_number + k as u64,
+            number: input.first_lead + k as u64,
             here: here + k,
             below: below + k,
         };
-        let new = work_lead(input, lead, old, &mut *space)?;
-        old = new;
+        old = work_lead(input, lead, old, &mut *space)?;
     }
     Ok(())
 }
@@ -69,12 +67,15 @@ pub fn work_element(
     requires { LeadsReady input first here below leads space.old }
     ensures { ElementWorked result input first here below leads space.old space.new }
 {
-    let element = input.element;
-    if let Some(Kind::Dam) = element.kind {
-        hold_dam(input, first, here, below, leads, space);
-        return Ok(());
+    match input.element.kind {
+        Some(Kind::Dam) => {
+            hold_dam(input, first, here, below, leads, space);
+            Ok(())
+        }
+        Some(Kind::Basin | Kind::Reach | Kind::Tanks) | None => store_element(
+            input, first, here, below, leads, space,
+        ),
     }
-    store_element(input, first, here, below, leads, space)
 }
 
 // All leads of a tank, or its step, which is one lead: whether no number passes the ceiling.
@@ -93,7 +94,7 @@ pub fn store_tank(
 {
     let mut old = first;
     for k in 0..leads {
-        let new = tank_lead(
+        old = tank_lead(
             noise,
             weight,
             observation,
@@ -102,7 +103,6 @@ pub fn store_tank(
             old,
             &mut *space,
         )?;
-        old = new;
     }
     Ok(())
 }

@@ -23,15 +23,15 @@ work_lead-requires c =
       (p.0.nothing, p.1),
     )
 
-pub returns-in_default : goal.returns-in_default
-returns-in_default c =
+pub returns-in_err-old : goal.returns-in_err-old
+returns-in_err-old c =
     leads-refused _ _ _ _ _ _ c.requires.0.places _ _ _ c.loop-k.invariant c.loop-k-test.true _ _ c.work_lead.ensures
-    c.in_default.is
+    c.in_err-old.was c.from_residual.ensures.1
 
 pub loop-k-preserved : goal.loop-k-preserved
 loop-k-preserved c =
     leads-again _ _ _ _ _ _ c.requires.0.places _ _ _ c.loop-k.invariant c.loop-k-test.true _ _ c.work_lead.ensures
-    c.in-Accepted.is
+    c.in_ok-old.was
 
 pub returns : goal.returns
 returns c =

@@ -17,15 +17,15 @@ tank_lead-requires c =
     let p = c.requires in
     lead-ready _ _ _ _ _ _ p.places _ _ _ c.loop-k.invariant c.loop-k-test.true p.in_range 0 (omega arith)
 
-pub returns-in_default : goal.returns-in_default
-returns-in_default c =
+pub returns-in_err-old : goal.returns-in_err-old
+returns-in_err-old c =
     leads-refused _ _ _ _ _ _ c.requires.places _ _ _ c.loop-k.invariant c.loop-k-test.true _ _ (c.tank_lead.ensures.at _)
-    c.in_default.is
+    c.in_err-old.was c.from_residual.ensures.1
 
 pub loop-k-preserved : goal.loop-k-preserved
 loop-k-preserved c =
     leads-again _ _ _ _ _ _ c.requires.places _ _ _ c.loop-k.invariant c.loop-k-test.true _ _ (c.tank_lead.ensures.at _)
-    c.in-Accepted.is
+    c.in_ok-old.was
 
 pub returns : goal.returns
 returns c =

@@ -2,5 +2,5 @@
 use Rattle.lead_walk.proofs.LeadsLaws.{element-accepted}
 use Rattle.lead_walk.proofs.work_element.Goals as goal
 
-pub returns-then-element-eq-DAM : goal.returns-then-element-eq-DAM
-returns-then-element-eq-DAM c = element-accepted c.hold_dam.ensures
+pub returns-in-Some-Dam : goal.returns-in-Some-Dam
+returns-in-Some-Dam c = element-accepted c.hold_dam.ensures
