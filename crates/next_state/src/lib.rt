@@ -18,6 +18,7 @@ use sizes::STATE_NUMBERS;
 use state::{put_figures, put_rains, rains_of};
 
 // The place of element i after the step, where b basins come before it: its figures, and a basin's rains with its latest.
+#[tactic(auto, unfolding(state::specs::States::put_place, elements::specs::Kinds::by_kind))]
 fn put_step(
     state: &mut [u64; STATE_NUMBERS],
     i: usize,
@@ -69,5 +70,5 @@ pub fn write_state(
         put_step(&mut *state, i, kind, figures_at(space, i + 1), bytes, b);
         b += basin_of(kind);
     }
-    state[1] = state[1] + 1;
+    state[1] += 1;
 }

@@ -1,6 +1,6 @@
 -- `write_tanks` meets its contract.
 use Prim.Native.Nat.{◌+◌}
-use mathlib.Core.Path.{◌≡◌, ap, ◌∙◌}
+use mathlib.Core.Path.{ap, ◌∙◌}
 use native.Mathlib.Omega.{arith}
 use Rattle.state.specs.States.{put_figures}
 use Rattle.state.proofs.StateLaws.{changed-none, figures-put-more}
@@ -15,8 +15,3 @@ loop-x-preserved c = (
   omega arith,
   figures-put-more (λ k. figures_at _ (_ + k + 1)) _ _ _ c.loop-x.invariant.1 (c.put_figures.ensures ∙ ap (put_figures _ _) c.figures_at.ensures),
 )
-
-pub returns : goal.returns
-returns c =
-    let e : c.loop-x.x ≡ c.args.extra = omega arith in
-    rw e at c.loop-x.invariant.1
