@@ -5,8 +5,6 @@ use mathlib.Core.List.{List}
 use mathlib.Core.Logic.{◌≢◌}
 use mathlib.Core.Path.{◌≡◌, refl, ap, ◌∙◌}
 use native.Mathlib.Omega.{arith}
-use borrow.Author.Tests.{eqb-true, eqb-false, eq-eqb}
-use lib.Dec.{eqb}
 use lib.ListN.{get_or}
 use Rattle.units.specs.Units.{S}
 use Rattle.weighting.specs.Weight.{weight}
@@ -76,10 +74,10 @@ module _ (bytes : List ℕ) (i : ℕ) {step lag : ℕ} (known : ElementKnown byt
           → same_kind e.kind tanks ≡ x
           → let c = cond x (tank_of e (inlet_of (table_in bytes) e.down)) (draining_into e (inlet_of (table_in bytes) e.down)) in
           0 ≡ by_kind c.kind (weight (table_in bytes).step c.lag) (weight (table_in bytes).step c.lag) 0 0
-      go true k = absurd (small (λ d. omega (arith, same-true e.kind tanks k, d)))
+      go true k = absurd (small (λ d. cc (same-true e.kind tanks k)))
       go false k =
-          kind-cases (λ (x : ℕ). 0 ≡ x) e.kind (λ b. absurd (small (λ d. omega (arith, b, d))))
-          (λ r. absurd (small (λ d. omega (arith, r, d)))) (λ _. refl) (λ _ _ _. refl)
+          kind-cases (λ (x : ℕ). 0 ≡ x) e.kind (λ b. absurd (small (λ d. cc)))
+          (λ r. absurd (small (λ d. cc))) (λ _. refl) (λ _ _ _. refl)
 
 -- a weight that is read out of them
 pub weight-held :
