@@ -11,7 +11,7 @@ use machine::{Next, proceed};
 use progress::{after_read, first_progress};
 use sizes::{FORECAST_SPACE, INPUT_BUFFER, MOST_ELEMENTS, STATE_NUMBERS, TABLE_BYTES, TEXT_BUFFER};
 use std::io::{Read, Stdin};
-use text::digit_fours;
+use text::DigitFours;
 
 // The bytes of the input that are not used yet.
 fn input_buffer() -> [u8; INPUT_BUFFER]
@@ -72,7 +72,7 @@ fn main(rt: HostRuntime) {
     let mut weights = weight_space();
     let mut state = empty_state();
     let mut space = forecast_space();
-    let fours = digit_fours();
+    let fours = DigitFours::new();
     let mut out = text_buffer();
     let mut progress = first_progress();
     loop {

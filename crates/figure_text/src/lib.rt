@@ -3,14 +3,13 @@
 
 ghost use Rattle.std.specs.Prelude.{[], ◌∷◌, ◌++◌, ◌≡◌, ◌+◌, ◌≤◌, ◌<◌, length};
 ghost use Rattle.text.specs.Decimal.{decimal};
-ghost use Rattle.text.specs.Fours.{fours_below};
 ghost use Rattle.text.specs.Places.{Put};
 
-use text::put_last_digits;
+use text::{DigitFours, put_last_digits};
 
 // The digits of a number of at most four, put at a place; the place after them.
-fn put_short(out: &mut [u8], at: usize, v: u32, fours: &[u32]) -> usize
-    requires { (v < 10000) × ((at + 4 ≤ length out.old) × (fours.now ≡ fours_below 10000)) }
+fn put_short(out: &mut [u8], at: usize, v: u32, fours: &DigitFours) -> usize
+    requires { (v < 10000) × (at + 4 ≤ length out.old) }
     ensures { Put out.old at (decimal v) out.new result × (result ≤ at + 4) }
 {
     if v < 10 {
@@ -29,8 +28,8 @@ fn put_short(out: &mut [u8], at: usize, v: u32, fours: &[u32]) -> usize
 }
 
 // The digits of a number of at most eight, put at a place; the place after them.
-fn put_upper(out: &mut [u8], at: usize, v: u32, fours: &[u32]) -> usize
-    requires { (v < 100000000) × ((at + 8 ≤ length out.old) × (fours.now ≡ fours_below 10000)) }
+fn put_upper(out: &mut [u8], at: usize, v: u32, fours: &DigitFours) -> usize
+    requires { (v < 100000000) × (at + 8 ≤ length out.old) }
     ensures { Put out.old at (decimal v) out.new result × (result ≤ at + 8) }
 {
     if v < 10_000 {
@@ -42,8 +41,8 @@ fn put_upper(out: &mut [u8], at: usize, v: u32, fours: &[u32]) -> usize
 }
 
 // The digits of a number of at most ten, put at a place; the place after them. A short number, as most margins are, goes the shortest way.
-fn put_decimal(out: &mut [u8], at: usize, x: u32, fours: &[u32]) -> usize
-    requires { (at + 12 ≤ length out.old) × (fours.now ≡ fours_below 10000) }
+fn put_decimal(out: &mut [u8], at: usize, x: u32, fours: &DigitFours) -> usize
+    requires { at + 12 ≤ length out.old }
     ensures { Put out.old at (decimal x) out.new result }
 {
     if x < 10_000 {
@@ -55,8 +54,8 @@ fn put_decimal(out: &mut [u8], at: usize, x: u32, fours: &[u32]) -> usize
 }
 
 // As text::put_number, and faster, for numbers of at most ten digits: the figures of each line.
-pub fn put_figure(out: &mut [u8], at: usize, x: u32, after: u8, fours: &[u32]) -> usize
-    requires { (at + 21 ≤ length out.old) × (fours.now ≡ fours_below 10000) }
+pub fn put_figure(out: &mut [u8], at: usize, x: u32, after: u8, fours: &DigitFours) -> usize
+    requires { at + 21 ≤ length out.old }
     ensures { Put out.old at (decimal x ++ after ∷ []) out.new result × (result ≤ at + 21) }
 {
     let end = put_decimal(out, at, x, fours);

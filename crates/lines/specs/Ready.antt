@@ -2,20 +2,18 @@
 -- and a byte after them: at most 147 bytes.
 use Rattle.std.specs.Prelude.{ℕ, ◌+◌, ◌*◌, ◌≤◌, ◌<◌, List, ◌≡◌, length, take}
 use Rattle.sizes.specs.Sizes.{most_elements}
-use Rattle.text.specs.Fours.{fours_below}
 use Rattle.text.specs.Places.{Put}
 use Rattle.lines.specs.Ceiling.{FiguresUnderCeiling}
 
 -- the four figures from a place on
-pub record FiguresReady (out : List ℕ) (at : ℕ) (numbers : List ℕ) (from : ℕ) (fours : List ℕ) : Type 0 where
+pub record FiguresReady (out : List ℕ) (at : ℕ) (numbers : List ℕ) (from : ℕ) : Type 0 where
   pub room : at + 84 ≤ length out
   pub there : from + 4 ≤ length numbers
   pub under : FiguresUnderCeiling numbers (from + 4)
-  pub digits : fours ≡ fours_below 10000
 
 -- a line, with a start of so many bytes
 pub record LineReady
-    (out : List ℕ) (at : ℕ) (start : List ℕ) (size lead : ℕ) (numbers : List ℕ) (from : ℕ) (fours : List ℕ)
+    (out : List ℕ) (at : ℕ) (start : List ℕ) (size lead : ℕ) (numbers : List ℕ) (from : ℕ)
     : Type 0 where
   pub room : at + 147 ≤ length out
   pub whole : length start ≡ 32
@@ -23,11 +21,10 @@ pub record LineReady
   pub lead_few : lead < 100
   pub there : from + 4 ≤ length numbers
   pub under : FiguresUnderCeiling numbers (from + 4)
-  pub digits : fours ≡ fours_below 10000
 
 -- the lines of element i, with a start that says the step count already
 pub record ElementReady
-    (out : List ℕ) (at : ℕ) (numbers start : List ℕ) (size i leads : ℕ) (fours : List ℕ)
+    (out : List ℕ) (at : ℕ) (numbers start : List ℕ) (size i leads : ℕ)
     : Type 0 where
   pub room : at + 147 * leads ≤ length out
   pub there : 4 * (i * leads + leads) ≤ length numbers
@@ -36,7 +33,6 @@ pub record ElementReady
   pub whole : length start ≡ 32
   pub few : size ≤ 21
   pub under : FiguresUnderCeiling numbers (4 * (i * leads + leads))
-  pub digits : fours ≡ fours_below 10000
 
 -- these lines put, and the step count still in the start
 pub record ElementPut
@@ -47,10 +43,9 @@ pub record ElementPut
   pub kept : take size start ≡ take size start₀
 
 -- the lines of so many elements
-pub record LinesReady (out : List ℕ) (at : ℕ) (numbers : List ℕ) (elements leads : ℕ) (fours : List ℕ) : Type 0 where
+pub record LinesReady (out : List ℕ) (at : ℕ) (numbers : List ℕ) (elements leads : ℕ) : Type 0 where
   pub room : at + 147 * (elements * leads) ≤ length out
   pub there : 4 * (elements * leads) ≤ length numbers
   pub elements_few : elements ≤ most_elements
   pub leads_few : leads ≤ 100
   pub under : FiguresUnderCeiling numbers (4 * (elements * leads))
-  pub digits : fours ≡ fours_below 10000

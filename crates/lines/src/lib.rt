@@ -11,7 +11,7 @@ ghost use Rattle.lines.specs.Starts.{figures_from, line_after, lines_after};
 
 use figure_text::put_figure;
 use std::simd::u8x16;
-use text::{put_bytes, put_number, put_small};
+use text::{DigitFours, put_bytes, put_number, put_small};
 
 // The line of a refusal, put at a place; the place after it.
 pub fn put_refusal(out: &mut [u8], at: usize, steps: u64, number: u64) -> usize
@@ -37,8 +37,8 @@ fn put_start(out: &mut [u8], at: usize, start: &[u8], size: usize) -> usize
 
 // The four figures from a place on, which end a line, put at a place; the place after them. Four calls, which are compiled into the
 // loop over the lines.
-fn put_figures(out: &mut [u8], at: usize, numbers: &[u64], from: usize, fours: &[u32]) -> usize
-    requires { FiguresReady out.old at numbers.now from fours.now }
+fn put_figures(out: &mut [u8], at: usize, numbers: &[u64], from: usize, fours: &DigitFours) -> usize
+    requires { FiguresReady out.old at numbers.now from }
     ensures { Put out.old at (line (figures_from numbers.now from)) out.new result × (result ≤ at + 84) }
 {
     let p1 = put_figure(out, at, numbers[from] as u32, b' ', fours);
@@ -56,9 +56,9 @@ fn put_line(
     lead: usize,
     numbers: &[u64],
     from: usize,
-    fours: &[u32],
+    fours: &DigitFours,
 ) -> usize
-    requires { LineReady out.old at start.now size lead numbers.now from fours.now }
+    requires { LineReady out.old at start.now size lead numbers.now from }
     ensures { Put out.old at (line_after (take size start.now) lead numbers.now from) out.new result × (result ≤ at + 147) }
 {
     let p1 = put_start(out, at, start, size);
@@ -76,9 +76,9 @@ fn put_element(
     size: usize,
     i: usize,
     leads: usize,
-    fours: &[u32],
+    fours: &DigitFours,
 ) -> usize
-    requires { ElementReady out.old at numbers.now start.old size i leads fours.now }
+    requires { ElementReady out.old at numbers.now start.old size i leads }
     ensures { ElementPut out.old at (lines_after (take size start.old ++ (decimal (i + 1) ++ 32 ∷ [])) leads numbers.now i) out.new result leads size start.old start.new }
 {
     let whole = put_small(start, size, i as u32 + 1, b' ', fours);
@@ -106,9 +106,9 @@ pub fn put_lines(
     steps: u64,
     elements: usize,
     leads: usize,
-    fours: &[u32],
+    fours: &DigitFours,
 ) -> usize
-    requires { LinesReady out.old at numbers.now elements leads fours.now }
+    requires { LinesReady out.old at numbers.now elements leads }
     ensures { Put out.old at (answer_lines steps leads numbers.now elements) out.new result × (result ≤ at + 147 * (elements * leads)) }
 {
     let mut start = [0u8; 32];

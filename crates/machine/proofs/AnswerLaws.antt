@@ -195,20 +195,19 @@ module _
       }
 
   -- what a record relies on
-  pub due-ready : (space fours : List ℕ) → WorkingSpace space fours → RecordReady (take p.length table) p.counts weights state space fours out p.at
-  due-ready space fours lent =
+  pub due-ready : (space : List ℕ) → WorkingSpace space → RecordReady (take p.length table) p.counts weights state space out p.at
+  due-ready space lent =
       let s = f.started d.phase d.some in
       record {
         weighed = s.weighed;
         state_whole = f.sizes.state_whole;
         state_kept = s.state_kept;
         space_full = lent.space_whole;
-        digits = lent.digits;
         room = omega (arith, d.room, f.sizes.text_whole);
       }
 
   module _
-      (space fours : List ℕ) (lent : WorkingSpace space fours) (size : ℕ) (r : TextAnswer) (after : State) (text : List ℕ)
+      (space : List ℕ) (lent : WorkingSpace space) (size : ℕ) (r : TextAnswer) (after : State) (text : List ℕ)
       (some : p.from ≡ p.have → ⊥) (e : RecordEnd (unused_in p input) size)
       (a : Reported r out p.at text after (record_on_printed (table_in (take p.length table)) (take size (unused_in p input)) state))
       (same : length text ≡ length out) where
@@ -228,7 +227,7 @@ module _
         let all = unused-all p input (omega (arith, f.inside, f.sizes.input_whole)) in
         let there : 0 < length (unused_in p input) = positive _ (λ z. some (omega (arith, f.order, all, z))) in
         let rest = window-later p.from p.have size input ∙ sym e.after in
-        let next = record-left _ _ _ _ _ _ _ _ _ (due-ready space fours lent) a.left in
+        let next = record-left _ _ _ _ _ _ _ _ (due-ready space lent) a.left in
         record {
           held =
               rw (

@@ -9,7 +9,6 @@ use Rattle.table.specs.InUse.{table_in}
 use Rattle.state.specs.States.{State}
 use Rattle.state.specs.Rules.{state_fits}
 use Rattle.element_weights.specs.Weights.{Weighed}
-use Rattle.text.specs.Fours.{fours_below}
 use Rattle.program_run.specs.Machine.{none_left}
 use Rattle.progress.specs.declared.Progress.{Progress}
 
@@ -36,10 +35,9 @@ pub record BuffersFit (p : Progress) (input table weights : List ℕ) (state : S
   pub text_inside : p.at ≤ text_buffer
   pub started : p.judged ≡ true → 0 < p.left → Started (take p.length table) p.counts weights state
 
--- working space for a forecast, and the digits of 0 to 9,999
-pub record WorkingSpace (space fours : List ℕ) : Type 0 where
+-- working space for a forecast
+pub record WorkingSpace (space : List ℕ) : Type 0 where
   pub space_whole : length space ≡ forecast_space
-  pub digits : fours ≡ fours_below 10000
 
 -- a table is to be answered, and there is room for the text
 pub record TableDue (p : Progress) : Type 0 where

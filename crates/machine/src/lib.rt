@@ -11,7 +11,7 @@ use refusal_answer::answer_refusal;
 use report::answer_record;
 use sizes::STATE_NUMBERS;
 use table_input::started_on_input;
-use text::put_bytes;
+use text::{DigitFours, put_bytes};
 
 // What a call has done: so many bytes of text are handed over; the run has ended; more input is asked for, to be put at a place; or the
 // table or a record has been answered, and the next call goes on.
@@ -68,10 +68,10 @@ fn next_answered(
     weights: &[u64],
     state: &mut [u64; STATE_NUMBERS],
     space: &mut [u64],
-    fours: &[u32],
+    fours: &DigitFours,
     out: &mut [u8],
 ) -> Progress
-    requires { BuffersFit p input.now table.now weights.now state.old out.old × (WorkingSpace space.old fours.now × RecordDue p) }
+    requires { BuffersFit p input.now table.now weights.now state.old out.old × (WorkingSpace space.old × RecordDue p) }
     ensures { HeldAnswered (held_in p input.now table.now state.old out.old) result input.now table.now weights.now state.new out.new }
 {
     let from = p.from;
@@ -104,10 +104,10 @@ fn answered(
     weights: &mut [u64],
     state: &mut [u64; STATE_NUMBERS],
     space: &mut [u64],
-    fours: &[u32],
+    fours: &DigitFours,
     out: &mut [u8],
 ) -> Progress
-    requires { BuffersFit p input.now table.old weights.old state.old out.old × (WorkingSpace space.old fours.now × AnswerDue p) }
+    requires { BuffersFit p input.now table.old weights.old state.old out.old × (WorkingSpace space.old × AnswerDue p) }
     ensures { HeldAnswered (held_in p input.now table.old state.old out.old) result input.now table.new weights.new state.new out.new }
 {
     if p.judged {
@@ -124,10 +124,10 @@ pub fn proceed(
     weights: &mut [u64],
     state: &mut [u64; STATE_NUMBERS],
     space: &mut [u64],
-    fours: &[u32],
+    fours: &DigitFours,
     out: &mut [u8],
 ) -> Turn
-    requires { BuffersFit p input.old table.old weights.old state.old out.old × WorkingSpace space.old fours.now }
+    requires { BuffersFit p input.old table.old weights.old state.old out.old × WorkingSpace space.old }
     ensures { Turned (held_in p input.old table.old state.old out.old) result input.new table.new weights.new state.new out.new }
 {
     let from = p.from;

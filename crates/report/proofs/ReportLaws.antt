@@ -200,11 +200,11 @@ module _ (t : TableValues) (bytes : List ℕ) (s : State) (bounds : AcceptedBoun
 
 -- and so for every record on what it relies on
 pub record-left :
-    (table bytes : List ℕ) (counts : Counts) (weights : List ℕ) (s : State) (space fours out : List ℕ) (at : ℕ) {after : State}
-    → RecordReady table counts weights s space fours out at
+    (table bytes : List ℕ) (counts : Counts) (weights : List ℕ) (s : State) (space out : List ℕ) (at : ℕ) {after : State}
+    → RecordReady table counts weights s space out at
     → after ≡ (record_on_printed (table_in table) bytes s).state
     → (length after ≡ state_numbers) × (state_fits (table_in table) after ≡ true)
-record-left table bytes counts weights s space fours out at h e = (
+record-left table bytes counts weights s space out at h e = (
   rw e (record-length (table_in table) bytes s h.weighed.counted.counted.table.bounds h.state_whole),
   rw e (record-fits (table_in table) bytes s h.weighed.counted.counted.table.bounds h.state_whole h.state_kept),
 )

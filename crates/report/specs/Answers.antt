@@ -6,21 +6,19 @@ use Rattle.state.specs.States.{State}
 use Rattle.state.specs.Rules.{state_fits}
 use Rattle.table.specs.declared.Counts.{Counts}
 use Rattle.element_weights.specs.Weights.{Weighed}
-use Rattle.text.specs.Fours.{fours_below}
 use Rattle.refusal_answer.specs.declared.TextAnswer.{TextAnswer}
 use Rattle.refusal_answer.specs.Answers.{TextAnswered}
 use Rattle.program.specs.Records.{Printed}
 
--- an accepted table with its counts and weights, a state that rule 8 accepts, working space for a forecast, the digits of
--- 0 to 9,999, and room for a record's text
+-- an accepted table with its counts and weights, a state that rule 8 accepts, working space for a forecast, and room for a
+-- record's text
 pub record RecordReady
-    (table : List ℕ) (counts : Counts) (weights : List ℕ) (state : State) (space fours out : List ℕ) (at : ℕ)
+    (table : List ℕ) (counts : Counts) (weights : List ℕ) (state : State) (space out : List ℕ) (at : ℕ)
     : Type 0 where
   pub weighed : Weighed table counts weights
   pub state_whole : length state ≡ state_numbers
   pub state_kept : state_fits (table_in table) state ≡ true
   pub space_full : length space ≡ forecast_space
-  pub digits : fours ≡ fours_below 10000
   pub room : at + text_bytes ≤ length out
 
 -- a text is put at a place, as it is printed of a record

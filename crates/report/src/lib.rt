@@ -11,6 +11,7 @@ use lines::put_lines;
 use refusal_answer::{TextAnswer, answer_refusal};
 use sizes::STATE_NUMBERS;
 use table::Counts;
+use text::DigitFours;
 
 // The forecast after an accepted step, which rule 8 never refuses: its lines, or its refusal's. It is worked out in lent space, in which
 // its answer begins after the places of what leaves the river.
@@ -20,11 +21,11 @@ fn answer_forecast(
     weights: &[u64],
     state: &[u64; STATE_NUMBERS],
     space: &mut [u64],
-    fours: &[u32],
+    fours: &DigitFours,
     out: &mut [u8],
     at: usize,
 ) -> TextAnswer
-    requires { RecordReady table.now counts weights.now state.now space.old fours.now out.old at }
+    requires { RecordReady table.now counts weights.now state.now space.old out.old at }
     ensures { TextAnsweredOf result out.old at out.new (forecast_printed (table_in table.now) state.now (forecast_on_answer (table_in table.now) state.now answer_numbers)) }
 {
     let answer = leads::forecast_in(table, counts, weights, state, &mut *space);
@@ -58,11 +59,11 @@ pub fn answer_record(
     bytes: &[u8],
     state: &mut [u64; STATE_NUMBERS],
     space: &mut [u64],
-    fours: &[u32],
+    fours: &DigitFours,
     out: &mut [u8],
     at: usize,
 ) -> TextAnswer
-    requires { RecordReady table.now counts weights.now state.old space.old fours.now out.old at }
+    requires { RecordReady table.now counts weights.now state.old space.old out.old at }
     ensures { Reported result out.old at out.new state.new (record_on_printed (table_in table.now) bytes.now state.old) }
 {
     let answer = record_step::step_lent(

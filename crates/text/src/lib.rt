@@ -41,30 +41,42 @@ fn pair_of(v: u32) -> u32
 }
 
 // The digits of 0 to 9,999, four to a word.
-pub fn digit_fours() -> [u32; 10000]
-    ensures { result ≡ fours_below 10000 }
-{
-    from_fn(|v| {
-        let x = v as u32;
-        pair_of(x / 100) + 65_536 * pair_of(x % 100)
-    })
+#[derive(Drop)]
+pub struct DigitFours {
+    pub words: [u32; 10000],
+    pub ghost digits: { words ≡ fours_below 10000 },
+}
+
+impl DigitFours {
+    pub fn new() -> Self {
+        DigitFours {
+            words: from_fn(|v| {
+                let x = v as u32;
+                pair_of(x / 100) + 65_536 * pair_of(x % 100)
+            }),
+        }
+    }
 }
 
 // The last N digits of a number of at most four, zeros before them where it has fewer, put at a place; the place after them.
-pub fn put_last_digits<const N: usize>(out: &mut [u8], at: usize, v: u32, fours: &[u32]) -> usize
+pub fn put_last_digits<const N: usize>(
+    out: &mut [u8],
+    at: usize,
+    v: u32,
+    fours: &DigitFours,
+) -> usize
     requires few { N ≤ 4 }
     requires small { v < 10000 }
     requires room { at + N ≤ length out.old }
-    requires digits { fours.now ≡ fours_below 10000 }
     ensures { Put out.old at (last_digits N v) out.new result × (result ≡ at + N) }
 {
-    let four = fours[v as usize].to_le_bytes();
+    let four = fours.words[v as usize].to_le_bytes();
     put_bytes(out, at, &four[4 - N..])
 }
 
 // A number of one or two digits and then one byte, put at a place; the place after them.
-pub fn put_small(out: &mut [u8], at: usize, x: u32, after: u8, fours: &[u32]) -> usize
-    requires { (x < 100) × ((at + 3 ≤ length out.old) × (fours.now ≡ fours_below 10000)) }
+pub fn put_small(out: &mut [u8], at: usize, x: u32, after: u8, fours: &DigitFours) -> usize
+    requires { (x < 100) × (at + 3 ≤ length out.old) }
     ensures { Put out.old at (decimal x ++ after ∷ []) out.new result × (result ≤ at + 3) }
 {
     if x < 10 {

@@ -23,8 +23,8 @@ abbrev held_at : goal.After-write_all → Held
 held_at c = held_in c.loop-size.progress c.loop-size.input c.loop-size.table c.loop-size.state c.loop-size.out
 
 -- the working space stays
-space-kept : {space fours after : List ℕ} → WorkingSpace space fours → length after ≡ length space → WorkingSpace after fours
-space-kept h e = record { space_whole = e ∙ h.space_whole; digits = h.digits }
+space-kept : {space after : List ℕ} → WorkingSpace space → length after ≡ length space → WorkingSpace after
+space-kept h e = record { space_whole = e ∙ h.space_whole }
 
 -- there is room for a read
 read-room : (c : goal.After-stdin-1-unread) → c.in-Read.at ≤ input_buffer
@@ -43,7 +43,7 @@ pub loop-size-init : goal.loop-size-init
 loop-size-init c = (
   first_fits _ _ _ _ _ _ c.first_progress-progress.ensures c.input_buffer-input.ensures c.table_buffer-table.ensures c.weight_space-weights.ensures
       (empty-length _ c.empty_state-state.ensures) c.text_buffer-out.ensures,
-  record { space_whole = sym c.forecast_space-space.ensures; digits = c.digit_fours-fours.ensures },
+  record { space_whole = sym c.forecast_space-space.ensures },
 )
 
 pub slice_bounds-out-end : goal.slice_bounds-out-end

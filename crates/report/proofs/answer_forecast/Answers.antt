@@ -17,7 +17,6 @@ put_lines-end-requires c =
       there = part_room c.forecast_in-answer.new.space _ _ leads few (c.forecast_in-answer.auto.space ∙ p.space_full);
       elements_few = few-elements _ _ _ p.weighed;
       leads_few = omega (arith, leads);
-      digits = p.digits;
       under = counted-under _ _ _ p.weighed _ (shown-under _ _ _ shown);
     }
 

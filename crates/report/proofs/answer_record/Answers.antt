@@ -14,7 +14,6 @@ answer_forecast-requires c =
       state_whole = step-length _ _ _ _ _ v p.weighed.counted.counted.table.bounds p.state_whole;
       state_kept = answered-fits _ _ _ _ (cells-bounds _ p.weighed.counted.counted.table.bounds) p.state_whole _ v c.in-Accepted.is;
       space_full = omega (arith, c.step_lent-verdict.auto, p.space_full);
-      digits = p.digits;
       room = p.room;
     }
 

@@ -5,11 +5,8 @@ use Rattle.text.proofs.FoursLaws.{word_at}
 use Rattle.text.proofs.PlacesLaws.{put_same}
 use Rattle.text.proofs.put_last_digits.Goals as goal
 
-pub bounds-fours-v : goal.bounds-fours-v
-bounds-fours-v g c = (word_at _ _ c.requires.digits c.requires.small).1
-
 pub returns : goal.returns
 returns g c =
     let n = g.row.N in
-    let p = put_same (last-bytes n c.args.v _ _ c.requires.few c.requires.small (word_at _ _ c.requires.digits c.requires.small).0 c.to_le_bytes-four.ensures) c.put_bytes.ensures in
+    let p = put_same (last-bytes n c.args.v _ _ c.requires.few c.requires.small (word_at _ _ c.args.fours.now.digits c.requires.small).0 c.to_le_bytes-four.ensures) c.put_bytes.ensures in
     (p, omega (arith, p.ends, length-last_digits n c.args.v))
