@@ -1,47 +1,48 @@
--- Laws of rule 7 on one gauge, test by test.
-use Prim.Native.Nat.{ℕ, ◌-◌, ◌≤◌, ◌<◌}
-use mathlib.Core.Bool.{true, false}
-use mathlib.Core.Logic.{◌≢◌}
+-- Laws of rule 7 on the gauges, by what is read where they stand.
+use Prim.Native.Nat.{ℕ, ◌+◌, ◌-◌, ◌≤◌, ◌<◌}
+use mathlib.Core.Bool.{not, ◌&&◌}
+use mathlib.Core.List.{List}
 use mathlib.Core.Path.{◌≡◌}
-use lib.Dec.{leb}
-use borrow.Author.Tests.{lt-ltb, le-ltb, lt-leb, le-leb, eq-eqb, ne_eqb}
+use native.Mathlib.Omega.{arith}
+use lib.Dec.{ltb, leb}
+use lib.ListN.{length}
+use Rattle.sizes.specs.Sizes.{most_elements, most_gauges}
 use Rattle.units.specs.Units.{C}
+use Rattle.fields.specs.Bytes.{byte_at, number32}
 use Rattle.fields.specs.Ranges.{in_range}
-use Rattle.elements.specs.declared.Element.{Element}
-use Rattle.elements.specs.Kinds.{dam}
-use Rattle.gauges.specs.declared.Gauge.{Gauge}
-use Rattle.gauges.specs.Rules.{element_before, curve_fits, not_on_dam, beta_fits, gauge_fits}
-use Rattle.std.specs.Prelude.{Option}
-use Rattle.elements.specs.declared.Kind.{Kind}
+use Rattle.elements.specs.Elements.{element_at}
+use Rattle.elements.specs.Kinds.{dam, same_kind}
+use Rattle.gauges.specs.Gauges.{curve_at, beta_at, gauge_from, gauge_place, gauge_at}
+use Rattle.gauges.specs.Places.{Versioned, GaugeThere, GaugePlaced}
+use Rattle.gauges.specs.Rules.{curve_fits, not_on_dam, beta_fits, gauge_fits}
+use Rattle.gauges.proofs.GaugeLaws.{gauge-there, place-before}
+use Rattle.gauge_rules.specs.Judged.{GaugeAfter}
 
--- the element of gauge g and that of the gauge before it
-module _
-    (n : ℕ) (element : ℕ → Element) (gauge : ℕ → Gauge) (g : ℕ) {above number : ℕ} (a : above ≡ element_before gauge g)
-    (e : number ≡ (gauge g).element) where
-  pub not_after : number ≤ above → false ≡ gauge_fits n element gauge g
-  unfolding gauge_fits
-  not_after l = rw (← a, ← e, le-ltb _ _ l)
+-- each of the first m gauges is there
+pub placed :
+    (table : List ℕ) (n : ℕ) {m g : ℕ}
+    → Versioned table × ((n ≤ most_elements) × ((m ≤ most_gauges) × (gauge_place table n m ≤ length table)))
+    → g < m
+    → GaugePlaced table n g
+placed table n {g = g} p l =
+    record {
+      versioned = p.0;
+      elements = p.1.0;
+      gauges = omega (arith, p.1.1.0);
+      whole = omega (arith, place-before table p.0 n l, p.1.1.1);
+    }
 
-  module _ (after : above < number) where
-    pub too-late : n < number → false ≡ gauge_fits n element gauge g
-    unfolding gauge_fits
-    too-late m = rw (← a, ← e, lt-ltb _ _ after, lt-leb _ _ m)
+module _ (table : List ℕ) (n g : ℕ) {above at : ℕ} (p : GaugeAfter table n g above) (is : at ≡ gauge_place table n g) where
+  -- all its bytes are there
+  pub there : GaugeThere table at
+  there = rw is (gauge-there table n g p.placed)
 
-    module _ (there : number ≤ n) {kind : Option Kind} (k : kind ≡ (element (number - 1)).kind) where
-      pub on-dam : kind ≡ dam → false ≡ gauge_fits n element gauge g
-      unfolding gauge_fits not_on_dam
-      on-dam d = rw (← a, ← e, lt-ltb _ _ after, le-leb _ _ there, ← k, eq-eqb _ _ d)
-
-      module _ (free : kind ≢ dam) where
-        pub noise-broken : in_range (gauge g).noise.0 1 C ≡ false → false ≡ gauge_fits n element gauge g
-        unfolding gauge_fits not_on_dam
-        noise-broken r = rw (← a, ← e, lt-ltb _ _ after, le-leb _ _ there, ← k, ne_eqb _ _ free, r)
-
-        module _ (noise : in_range (gauge g).noise.0 1 C ≡ true) where
-          pub curve-broken : curve_fits (gauge g).curve ≡ false → false ≡ gauge_fits n element gauge g
-          unfolding gauge_fits not_on_dam
-          curve-broken c = rw (← a, ← e, lt-ltb _ _ after, le-leb _ _ there, ← k, ne_eqb _ _ free, noise, c)
-
-          pub beta-left : curve_fits (gauge g).curve ≡ true → {beta : ℕ} → beta ≡ (gauge g).beta → leb beta 500 ≡ gauge_fits n element gauge g
-          unfolding gauge_fits not_on_dam beta_fits
-          beta-left c b = rw (← a, ← e, lt-ltb _ _ after, le-leb _ _ there, ← k, ne_eqb _ _ free, noise, c, ← b)
+  pub judged :
+      {number : ℕ}
+      → number ≡ byte_at table at
+      → gauge_fits n (element_at table) (gauge_at table n) g
+      ≡ (((((ltb above number && leb number n) && not (same_kind (element_at table (number - 1)).kind dam)) && in_range (number32 table (at + 2)) 1 C)
+      && curve_fits (curve_at table at))
+      && leb (beta_at table at) 500)
+  unfolding gauge_fits not_on_dam beta_fits gauge_at gauge_from
+  judged e = rw (e, p.before, is)

@@ -30,7 +30,7 @@ fn gauge_fits(table: &[u8], n: usize, g: usize, above: usize) -> bool
     if n < element {
         return false;
     }
-    if let Some(Kind::Dam) = kind_at(table, element - 1) {
+    if kind_at(table, element - 1) == Some(Kind::Dam) {
         return false;
     }
     if !in_range(whole32(table, at + 2), 1, Variance::CEILING) {

@@ -1,5 +1,4 @@
 -- The loop of `gauges_fit`.
--- `gauges_fit` meets its contract.
 use Prim.Native.Nat.{◌≤◌}
 use mathlib.Core.Bool.{true}
 use mathlib.Core.Path.{◌≡◌}
