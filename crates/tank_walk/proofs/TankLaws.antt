@@ -1,21 +1,26 @@
 -- The turn of one tank in the code, and the tanks one after the other: what the code relies on, and what is then known.
 use Prim.{Unit}
-use Rattle.std.specs.Prelude.{Result, Ok, Err, None}
+use Rattle.std.specs.Prelude.{Result, Ok, Err, IsErrAnd, None}
+use Rattle.std.proofs.lemmas.Result.{err_from_is_err_and}
 use Prim.Native.Nat.{ℕ, ◌+◌, ◌*◌, ◌<◌}
 use mathlib.Core.List.{List}
-use mathlib.Core.Logic.{◌≢◌, ⊎_elim, inr, inl}
-use mathlib.Core.Path.{◌≡◌, refl, sym, subst}
+use mathlib.Core.Logic.{⊎_elim, inr, inl}
+use mathlib.Core.Path.{◌≡◌, refl, sym, ap, subst, ◌∙◌}
 use borrow.Author.Tests.{eq-eqb, ne_eqb}
 use native.Mathlib.Nat.{eq-or-lt_of_le}
 use native.Mathlib.Omega.{arith}
 use lib.ListN.{length}
 use Rattle.refusal.specs.declared.Refusal.{Refusal}
-use Rattle.refusal.specs.declared.Refusal.TheVariants.{AboveCeiling}
+use Rattle.refusal.specs.Refusals.{number}
+use Rattle.refusal.specs.Answers.{answer_of}
+use Rattle.refusal.proofs.RuleLaws.{not-both}
+use Rattle.units.proofs.CeilingLaws.{number-16}
 use Rattle.method.specs.declared.Figures.{Figures}
 use Rattle.method.specs.Inflow.{no_inflow}
 use Rattle.record.specs.Decoded.{ObservationFits}
 use Rattle.state.specs.States.{State, figures_of}
 use Rattle.answer_space.specs.Places.{most_sum_before, FiguresBelow}
+use Rattle.one_lead.specs.declared.ElementInput.{ElementInput}
 use Rattle.one_lead.specs.Worked.{tank_input}
 use Rattle.lead_walk.specs.Worked.{TankReady, ElementWorked}
 use Rattle.tank_walk.specs.declared.TankPlaces.{TankPlaces}
@@ -28,6 +33,7 @@ use Rattle.tank_walk.specs.Tanks.{
   done,
   refused,
   more,
+  TanksWorked,
   TanksThere,
   TankTurnReady,
   TankTurned,
@@ -82,7 +88,7 @@ module _
             element = record { kind = inr (inl refl); system_noise = g.system_noise; rain_noise = omega arith };
             weight = g.weighed;
             first_lead = omega arith;
-            release = λ k. absurd (omega (arith, k));
+            release = λ k. omega arith;
             observation = tt;
           };
           fits = g.fits;
@@ -108,54 +114,69 @@ module _
 
 -- ---- one after the other
 
-module _ {noise weight extra x j : ℕ} {p : TankPlaces} {s : State} {before : List ℕ} (g : TanksReady noise weight extra x j p s before) where
-  -- none is left
-  pub tanks-none : j ≡ extra → TanksAnswered (Ok tt) noise weight extra x j p s before before
-  tanks-none last = done last
+-- what the loop over them holds before tank j: what is then worked out of the rest is so of all
+pub record TanksSoFar (noise weight extra x : ℕ) (p : TankPlaces) (s : State) (before : List ℕ) (j : ℕ) (now : List ℕ) : Type 0 where
+  pub ready : TanksReady noise weight extra x j p s now
+  pub rest :
+      (r : Result Unit Refusal) (after : List ℕ)
+      → TanksAnswered r noise weight extra x j p s now after
+      → TanksAnswered r noise weight extra x 0 p s before after
 
-  -- tank j is
-  module _ (more_left : j ≢ extra) where
-    pub tank-left : j < extra
-    tank-left = ⊎_elim (λ q. absurd (more_left q)) (λ l. l) (eq-or-lt_of_le g.tank)
+module _ {noise weight extra x : ℕ} {p : TankPlaces} {s : State} {before : List ℕ} where
+  pub tanks-begin : TanksReady noise weight extra x 0 p s before → TanksSoFar noise weight extra x p s before 0 before
+  tanks-begin ready = record { ready = ready; rest = λ r after w. w }
 
-    module _ {first : Figures} (old : first ≡ figures_of s (x + j)) where
-      pub one-ready : TankTurnReady noise weight extra j p first before
+  module _ {j : ℕ} {now : List ℕ} (h : TanksSoFar noise weight extra x p s before j now) where
+    -- none is left
+    pub tanks-ended : j ≡ extra → TanksAnswered (Ok tt) noise weight extra x 0 p s before now
+    tanks-ended last = h.rest _ _ (done last)
+
+    -- tank j is
+    module _ (left : j < extra) {first : Figures} (old : first ≡ figures_of s (x + j)) where
+      pub one-ready : TankTurnReady noise weight extra j p first now
       one-ready =
-          rw old
-          (record { there = g.there; tank = tank-left; system_noise = g.system_noise; weighed = g.weighed; fits = g.fits j tank-left })
+          let g = h.ready in
+          rw old (record { there = g.there; tank = left; system_noise = g.system_noise; weighed = g.weighed; fits = g.fits j left })
 
-      turn-of :
-          {r : Result Unit Refusal} {middle : List ℕ}
-          → TankTurned r noise weight extra j p first before middle
-          → TankTurn (tank_input noise weight None) (λ k. figures_of s (x + k)) (tank_place p extra) p.leads extra j r before middle
-      turn-of {r} {middle} t = record { middle = t.middle; row = t.row; worked = rw old at t.worked }
+      module _ {r : Result Unit Refusal} {next : List ℕ} (t : TankTurned r noise weight extra j p first now next) where
+        turn : TankTurn (tank_input noise weight None) (λ k. figures_of s (x + k)) (tank_place p extra) p.leads extra j r now next
+        turn = record { middle = t.middle; row = t.row; worked = rw old at t.worked }
 
-      pub tanks-passed :
-          {r : Result Unit Refusal} {k : Refusal} {middle : List ℕ}
-          → r ≡ Err k
-          → TankTurned r noise weight extra j p first before middle
-          → TanksAnswered (Err AboveCeiling) noise weight extra x j p s before middle
-      tanks-passed a t = refused tank-left a (turn-of t)
+        -- its refusal is passed on
+        pub tanks-passed :
+            {answer : Result Unit Refusal} {k : Refusal}
+            → r ≡ Err k
+            → IsErrAnd answer (λ (e : Refusal). e ≡ k)
+            → TanksAnswered answer noise weight extra x 0 p s before next
+        tanks-passed {answer = answer} e passed =
+            let q = err_from_is_err_and answer passed in
+            h.rest _ _ (rw (q.1, q.2) (refused left e turn))
 
-      pub tanks-more :
-          {r turn : Result Unit Refusal} {middle after : List ℕ}
-          → turn ≡ (Ok tt)
-          → TankTurned turn noise weight extra j p first before middle
-          → TanksAnswered r noise weight extra x (j + 1) p s middle after
-          → TanksAnswered r noise weight extra x j p s before after
-      tanks-more a t rest = more tank-left a (turn-of t) rest
+        -- the next is ready
+        pub tanks-again : r ≡ Ok tt → length next ≡ length now → TanksSoFar noise weight extra x p s before (j + 1) next
+        tanks-again e size =
+            let g = h.ready in
+            record {
+              ready = record {
+                there = there-again g.there size;
+                places = g.places;
+                tank = omega (arith, left);
+                system_noise = g.system_noise;
+                weighed = g.weighed;
+                fits = g.fits;
+              };
+              rest = λ answer after w. h.rest answer after (more left e turn w);
+            }
 
-    -- the next is ready then
-    pub next-ready : {middle : List ℕ} → length middle ≡ length before → TanksReady noise weight extra x (j + 1) p s middle
-    next-ready size =
-        record {
-          there = there-again g.there size;
-          places = g.places;
-          tank = omega (arith, tank-left);
-          system_noise = g.system_noise;
-          weighed = g.weighed;
-          fits = g.fits;
-        }
+-- the tanks are refused by 16
+pub tanks-16 :
+    {c : ElementInput} {first : ℕ → Figures} {place : ℕ → ℕ} {leads extra j : ℕ} {r : Result Unit Refusal} {k : Refusal} {before after : List ℕ}
+    → TanksWorked c first place leads extra j r before after
+    → r ≡ Err k
+    → number k ≡ 16
+tanks-16 (done e) a = absurd (not-both refl (ap answer_of a))
+tanks-16 (refused l e m) a = number-16 _ _ (sym (ap answer_of a) ∙ (sym (ap answer_of e) ∙ m.worked.verdict))
+tanks-16 (more l e m rest) a = tanks-16 rest a
 
 -- ---- opening an element
 

@@ -3,7 +3,6 @@ use Prim.{Unit}
 use Rattle.std.specs.Prelude.{ℕ, ◌+◌, ◌*◌, ◌≤◌, ◌<◌, cond, List, ◌≢◌, ◌≡◌, eqb, length, Result, Ok, Err, None}
 use Rattle.sizes.specs.Sizes.{most_places, most_leads}
 use Rattle.refusal.specs.declared.Refusal.{Refusal}
-use Rattle.refusal.specs.declared.Refusal.TheVariants.{AboveCeiling}
 use Rattle.units.specs.Units.{C, S}
 use Rattle.method.specs.declared.Figures.{Figures}
 use Rattle.method.specs.Figures.{FiguresFit}
@@ -53,7 +52,7 @@ module _ (c : ElementInput) (first : ℕ → Figures) (place : ℕ → ℕ) (lea
         → j < extra
         → r ≡ Err k
         → TankTurn j r before after
-        → TanksWorked j (Err AboveCeiling) before after
+        → TanksWorked j (Err k) before after
     more :
         {j : ℕ} {r turn : Result Unit Refusal} {before middle after : List ℕ}
         → j < extra

@@ -77,39 +77,28 @@ fn work_tank(
     let here = tank_place(places, extra, j);
     let below = tank_place(places, extra, j + 1);
     clear_row(below, leads, &mut *space);
-    store_tank(
-        noise,
-        weight,
-        None,
-        first,
-        here,
-        below,
-        leads,
-        space,
-    )
+    store_tank(noise, weight, None, first, here, below, leads, space)
 }
 
-// The tanks above the last, from tank j on; their figures before stand from place x of the state on. (A function that calls itself is not put
-// into its caller.)
+// The tanks above the last, one after the other; their figures before stand from place x of the state on.
+#[inline(never)]
 fn work_tanks(
     noise: u64,
     weight: u64,
     extra: usize,
     x: usize,
-    j: usize,
     places: TankPlaces,
     state: &[u64; STATE_NUMBERS],
     space: &mut [u64],
 ) -> Result<(), Refusal>
-    requires { TanksReady noise weight extra x j places state.now space.old }
-    ensures { TanksAnswered result noise weight extra x j places state.now space.old space.new }
+    requires { TanksReady noise weight extra x 0 places state.now space.old }
+    ensures { TanksAnswered result noise weight extra x 0 places state.now space.old space.new }
 {
-    if j == extra {
-        return Ok(());
+    for j in 0..extra {
+        let first = figures_of(state, x + j);
+        work_tank(noise, weight, extra, j, places, first, &mut *space)?;
     }
-    let first = figures_of(state, x + j);
-    work_tank(noise, weight, extra, j, places, first, &mut *space)?;
-    work_tanks(noise, weight, extra, x, j + 1, places, state, space)
+    Ok(())
 }
 
 // An element of tanks made ready for the turn of its last: its sums are moved to the places of the first, and the tanks above the last are
@@ -127,5 +116,5 @@ pub fn open_tanks(
     ensures { TanksOpened result noise weight extra x places state.now space.old space.new }
 {
     move_row(places.own, places.first, places.leads, &mut *space);
-    work_tanks(noise, weight, extra, x, 0, places, state, space)
+    work_tanks(noise, weight, extra, x, places, state, space)
 }
