@@ -4,14 +4,13 @@ use Rattle.refusal.specs.declared.Refusal.{Refusal}
 use Rattle.std.specs.Prelude.{Result, Ok, Option, Some, None}
 use Prim.{Unit}
 use Prim.Native.Nat.{ℕ, ◌+◌, ◌≤◌, ◌<◌}
-use mathlib.Core.Bool.{Bool, true, false, cond, ◌&&◌}
+use mathlib.Core.Bool.{Bool, true, false, cond}
 use mathlib.Core.List.{List, [], ◌∷◌}
 use mathlib.Core.Logic.{◌≢◌, ⊎_elim}
 use mathlib.Core.Path.{◌≡◌, refl, sym, ap, subst, ◌∙◌}
-use borrow.Author.Tests.{le-leb, eq-eqb, eqb-false}
+use borrow.Author.Tests.{le-leb, eq-eqb}
 use native.Mathlib.Nat.{eq-or-lt_of_le}
 use native.Mathlib.Omega.{arith}
-use lib.Dec.{eqb}
 use lib.ListN.{length}
 use Rattle.sizes.specs.Sizes.{state_numbers}
 use Rattle.refusal.specs.Answers.{accepted, refused}
@@ -25,9 +24,11 @@ use Rattle.method.proofs.FiguresLaws.{under-figures}
 use Rattle.method.specs.Routing.{routed, variance_numbers, routing_numbers}
 use Rattle.method.specs.Correction.{corrected, correction_numbers}
 use Rattle.fields.proofs.RangeLaws.{all-below}
+use Rattle.elements.specs.declared.Kind.{Kind}
+use Rattle.elements.specs.declared.Kind.TheVariants.{Basin, Reach, Dam, Tanks}
 use Rattle.elements.specs.declared.Element.{Element}
 use Rattle.elements.specs.Kinds.{basin, tanks, by_kind, IsKind, same_kind}
-use Rattle.elements.proofs.KindLaws.{kind-cases, kind-both, no_other, same-false}
+use Rattle.elements.proofs.KindLaws.{kind-both, no_other}
 use Rattle.table.specs.Tables.{TableValues}
 use Rattle.table.specs.Bounds.{TableBounds}
 use Rattle.table.specs.KindCounts.{extra_count}
@@ -62,7 +63,6 @@ use Rattle.network.proofs.NumbersLaws.{element-part}
 use Rattle.network.proofs.StepLaws.{stepped-length, stepped-elements, stepped-steps, stepped-figures, stepped-rains}
 use Rattle.entries.specs.Entries.{step_rules, step_on_answer}
 use Rattle.entries.proofs.CellRules.{cells-kept}
-use Rattle.elements.specs.declared.Kind.{Kind}
 
 -- ---- the figures
 
@@ -145,17 +145,12 @@ place-fits :
     → FiguresFit p.figures
     → (kind ≡ basin → RainsUnder p.rains)
     → place_fits kind p ≡ true
-unfolding place_fits
-place-fits kind p single f r = go (same_kind kind tanks) refl
-  where
-    go :
-        (x : Bool)
-        → same_kind kind tanks ≡ x
-        → cond x (figures_fit p.figures) (by_kind kind (figures_fit p.figures && rains_fit p.rains) (figures_fit p.figures) (figures_fit p.figures) false) ≡ true
-    go true k = figures-fit _ f
-    go false k =
-        kind-cases (λ (fit : Bool). fit ≡ true) kind (λ b. rw (figures-fit _ f, rains-fit _ (r b))) (λ _. figures-fit _ f)
-        (λ _. figures-fit _ f) (λ a b c. absurd (no_other (single (same-false _ _ k)) a b c))
+unfolding place_fits same_kind by_kind
+place-fits (Some Basin) p single f r = rw (figures-fit _ f, rains-fit _ (r refl))
+place-fits (Some Reach) p single f r = figures-fit _ f
+place-fits (Some Dam) p single f r = figures-fit _ f
+place-fits (Some Tanks) p single f r = figures-fit _ f
+place-fits None p single f r = absurd (no_other (single (λ e. cc)) (λ e. cc) (λ e. cc) (λ e. cc))
 
 -- a state within the bounds of rule 8 is accepted by it
 pub bounds-fit : (t : TableValues) (s : State) → TableBounds (cells t) → StateBounds t s → state_fits t s ≡ true
@@ -172,7 +167,7 @@ bounds-fit t s b h =
         let one : (t.element i).kind ≢ tanks → cell_kind (t.element i) ≡ (t.element i).kind = one-kind (t.element i) in
         place-fits (t.element i).kind (place_of s i) (λ n. subst IsKind (k ∙ one n) (b.element c m).kind)
         (rw (last-place t i l) at (h.figures c m))
-        (λ e. rw (last-place t i l) at (h.rains c m (k ∙ (one (λ q. omega (arith, e, q)) ∙ e))))
+        (λ e. rw (last-place t i l) at (h.rains c m (k ∙ (one (λ q. cc) ∙ e))))
 
     tanks-fit : (x : ℕ) → x < extra_count t → figures_fit (figures_of s (t.elements + x)) ≡ true
     tanks-fit x l =
@@ -261,7 +256,7 @@ module _ (t : TableValues) (bytes : List ℕ) (s next : State) (b : TableBounds 
   next-length h = rw (stepping-on t bytes s next h).1 (stepped-length t (input_at (cells t) bytes) s ∙ full)
 
   -- and so with the state that an entry leaves after a step that it accepts
-  pub answered-fits : (v : Result Unit Refusal) → Answered v next (step_on_answer t bytes s) s → v ≡ (Ok tt) → state_fits t next ≡ true
+  pub answered-fits : (v : Result Unit Refusal) → Answered v next (step_on_answer t bytes s) s → v ≡ Ok tt → state_fits t next ≡ true
   answered-fits v h e = next_fits (answered-next v next _ s h e)
 
 -- ---- the start
