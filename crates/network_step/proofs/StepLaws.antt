@@ -14,10 +14,9 @@ use lib.ListN.{length, replicate, length-replicate}
 use Rattle.sizes.specs.Sizes.{most_places, most_gauges}
 use Rattle.refusal.specs.Answers.{Answer, accepted, refused, answer_of}
 use Rattle.refusal.specs.declared.Refusal.{Refusal}
-use Rattle.refusal.specs.declared.Refusal.TheVariants.{AboveCeiling}
 use Rattle.units.specs.Units.{C, S, thousandths}
 use Rattle.units.specs.Ceiling.{some_passes, under_ceiling}
-use Rattle.units.proofs.UnderLaws.{Under, under-accepted, refused-whole}
+use Rattle.units.proofs.UnderLaws.{Under, under-accepted, refused-part}
 use Rattle.method.specs.declared.Figures.{Figures}
 use Rattle.method.specs.Figures.{FiguresFit}
 use Rattle.method.specs.Inflow.{no_inflow, old_outflow, step_inflow, mean_rain_inflow}
@@ -69,8 +68,6 @@ use Rattle.network_step.specs.declared.Passed.{Passed}
 use Rattle.network_step.specs.declared.StepInput.{StepInput}
 use Rattle.network_step.specs.Inputs.{input_of, own_number, passed_by, step_input}
 use Rattle.network_step.specs.declared.Reached.{Reached}
-use Rattle.network_step.specs.declared.RunEnd.{RunEnd}
-use Rattle.network_step.specs.declared.RunEnd.TheVariants.{Tanks}
 use Rattle.network_step.specs.Held.{
 use Rattle.elements.specs.declared.Kind.{Kind}
   place_count,
@@ -82,11 +79,9 @@ use Rattle.elements.specs.declared.Kind.{Kind}
   PassedBefore,
   ReachedIn,
   TanksMet,
-  RunEnded,
   ElementStepped,
   past_tanks,
   StepWorked,
-  under_verdict,
 }
 
 -- the inflow of a step is that of one rain at lead 0
@@ -241,8 +236,8 @@ module _ (table bytes : List ℕ) (s : State) where
       })
 
   -- all elements are worked out
-  pub stepping-done : (space : List ℕ) → Stepping t bytes s t.elements space → StepWorked true space t bytes s
-  unfolding under_verdict cells
+  pub stepping-done : (space : List ℕ) → Stepping t bytes s t.elements space → StepWorked (Ok tt) space t bytes s
+  unfolding cells
   stepping-done space h =
       record {
         decided = under-accepted tt _ (under_all (h.under 0 (omega arith)));
@@ -259,9 +254,8 @@ module _ (table bytes : List ℕ) (s : State) where
       place_is : (p : ℕ) → p * 1 + 0 + 0 ≡ p
       place_is p = omega arith
 
-  pub step-refused : {space : List ℕ} → StepPasses t bytes s → StepWorked false space t bytes s
-  unfolding under_verdict
-  step-refused h = record { decided = h; held = λ a. absurd (true≢false (sym a)) }
+  pub step-refused : {k : Refusal} {space : List ℕ} → StepPasses t bytes s k → StepWorked (Err k) space t bytes s
+  step-refused h = record { decided = h; held = λ a. cc }
 
   -- ---- what the record brings an element
 
@@ -354,9 +348,9 @@ module _ (table bytes : List ℕ) (s : State) where
           element-turn t own o old by-again i l to there h of (is ∙ first-is)
           (subst (λ (p : ℕ). LeadsDone c first (i + 1) p 1 before after) (down ∙ sym down_is) g)
 
-      last-passes : {r : Result Unit Refusal} {k : Refusal} → r ≡ Err k → ElementWorked r c first (i + 1) d 1 before after → StepPasses t bytes s
+      last-passes : {r : Result Unit Refusal} {k : Refusal} → r ≡ Err k → ElementWorked r c first (i + 1) d 1 before after → StepPasses t bytes s k
       last-passes e q =
-          refused-whole tt _ (step_numbers t (input_at (cells t) bytes) s)
+          refused-part tt _ (step_numbers t (input_at (cells t) bytes) s)
           (λ u. element-part t own o old by-again i l to there h of (is ∙ first-is) (all_under u)) (sym (ap answer_of e) ∙ q.verdict)
 
     -- ---- an element that is one cell
@@ -454,10 +448,10 @@ module _ (table bytes : List ℕ) (s : State) where
               last-turned (one-ready h) input-of is down (subst (λ (x : ElementInput). LeadsDone x first (i + 1) d 1 before after) same g)
 
           -- it refuses, and with it the step
-          pub stepping-refused : ElementWorked (Err AboveCeiling) c first (i + 1) d 1 before after → StepPasses t bytes s
-          stepping-refused q =
+          pub stepping-refused : {k : Refusal} → ElementWorked (Err k) c first (i + 1) d 1 before after → StepPasses t bytes s k
+          stepping-refused {k} q =
               last-passes (one-ready h) input-of is refl
-              (subst (λ (x : ElementInput). ElementWorked (Err AboveCeiling) x first (i + 1) d 1 before after) same q)
+              (subst (λ (x : ElementInput). ElementWorked (Err k) x first (i + 1) d 1 before after) same q)
 
     -- ---- an element of tanks
 
@@ -525,7 +519,7 @@ module _ (table bytes : List ℕ) (s : State) where
           opened-last : r ≡ (Ok tt) → AtLast middle
           opened-last a = ready-tanks t own o old by-again i l to there some above_of by-none h opened a
 
-          pub opened-passes : {k : Refusal} → r ≡ Err k → StepPasses t bytes s
+          pub opened-passes : {k : Refusal} → r ≡ Err k → StepPasses t bytes s k
           opened-passes e =
               passes (step_numbers t (input_at (cells t) bytes) s)
               (λ u. tanks-pass t own o old by-again i l to there some above_of by-none h opened e (all_under u))
@@ -548,7 +542,7 @@ module _ (table bytes : List ℕ) (s : State) where
                     element = record { kind = inr (inl refl); system_noise = omega (arith, system, e.system_noise); rain_noise = omega arith };
                     weight = few;
                     first_lead = omega arith;
-                    release = λ k. absurd (omega (arith, k));
+                    release = λ k. cc;
                     observation = observation-fits accepts kept i l observed;
                   };
                   fits = figures-fit;
@@ -639,10 +633,6 @@ module _ (t : TableValues) (bytes : List ℕ) (s : State) where
       → TanksMet t bytes s from met space
   met-tanks e used later kind h = rw e (record { used = used; later = later; kind = kind; reached = h })
 
-  pub run-met : {end : RunEnd} {from met : Reached} {space : List ℕ} → end ≡ Tanks met → RunEnded end t bytes s from space → TanksMet t bytes s from met space
-  unfolding RunEnded
-  run-met e h = rw e at h
-
   -- and done
   pub past-reached :
       {met r : Reached} {before after : List ℕ}
@@ -654,7 +644,7 @@ module _ (t : TableValues) (bytes : List ℕ) (s : State) where
       → ReachedIn t bytes s r after
   unfolding past_tanks
   past-reached {met} used kind h e walked =
-      let none : (basin_of tanks ≡ 0) × (dam_of tanks ≡ 0) = none-counts tanks (λ k. omega (arith, k)) (λ k. omega (arith, k)) (λ k. omega (arith, k)) in
+      let none : (basin_of tanks ≡ 0) × (dam_of tanks ≡ 0) = none-counts tanks (λ k. cc) (λ k. cc) (λ k. cc) in
       rw e
       (record {
         few = omega (arith, used);

@@ -24,6 +24,7 @@ use state::figures_of;
 use tank_walk::{TankPlaces, open_tanks};
 
 // What a step works an element out of: its weight, its own number, lead 0, and what its gauge observed.
+#[tactic(auto, unfolding(crate::specs::Inputs::input_of))]
 fn input_of(element: Element, weight: u64, own: u64, observation: Option<RatedReading>) -> ElementInput
     ensures { result ≡ input_of element weight own observation }
 {
@@ -50,17 +51,10 @@ struct StepInput {
     passed: Passed,
 }
 
-// The same of an element's input, and of how many basins and dams there are with it.
-fn step_input_of(input: ElementInput, basins: usize, dams: usize) -> StepInput
-    ensures { result ≡ record { input = input; passed = record { basins = basins; dams = dams } } }
-{
-    let passed = Passed { basins, dams };
-    StepInput { input, passed }
-}
-
 // What element i, counted from 0, is worked out of: its kind chooses what the record, in which b rains stand, brings it: a rain, a release
 // or nothing. (The element is read last: where a branch follows, the compiler puts its numbers together byte by byte. Basins and dams are
 // counted in the arms, where it takes the fewest instructions.)
+#[tactic(auto, unfolding(crate::specs::Inputs::step_input, crate::specs::Inputs::input_of, crate::specs::Inputs::own_number, crate::specs::Inputs::passed_by, elements::specs::Kinds::by_kind, elements::specs::Kinds::basin_of, elements::specs::Kinds::dam_of))]
 fn step_input(
     table: &[u8],
     i: usize,
@@ -73,30 +67,34 @@ fn step_input(
     requires { StepInputReady table.now i bytes.now b passed }
     ensures { result ≡ step_input table.now i weight bytes.now b passed observation }
 {
-    let kind = kind_at(table, i);
-    let basins = passed.basins;
-    let dams = passed.dams;
-    match kind {
+    let Passed { basins, dams } = passed;
+    match kind_at(table, i) {
         Some(Kind::Basin) => {
             let rain = rain_at(bytes, basins);
             let element = element_at(table, i);
             let inflow = mean_rain_inflow(rain, 1, element.area, element.runoff);
-            let input = input_of(element, weight, inflow, observation);
-            step_input_of(input, basins + 1, dams)
-        }
-        Some(Kind::Reach) => {
-            let input = input_of(element_at(table, i), weight, 0, observation);
-            step_input_of(input, basins, dams)
+            StepInput {
+                input: input_of(element, weight, inflow, observation),
+                passed: Passed {
+                    basins: basins + 1,
+                    dams,
+                },
+            }
         }
         Some(Kind::Dam) => {
             let release = release_at(bytes, b, dams);
-            let input = input_of(element_at(table, i), weight, release, observation);
-            step_input_of(input, basins, dams + 1)
+            StepInput {
+                input: input_of(element_at(table, i), weight, release, observation),
+                passed: Passed {
+                    basins,
+                    dams: dams + 1,
+                },
+            }
         }
-        _ => {
-            let input = input_of(element_at(table, i), weight, 0, observation);
-            step_input_of(input, basins, dams)
-        }
+        Some(Kind::Reach | Kind::Tanks) | None => StepInput {
+            input: input_of(element_at(table, i), weight, 0, observation),
+            passed,
+        },
     }
 }
 
@@ -119,24 +117,16 @@ struct Reached {
     gauges: usize,
 }
 
-// The same of its parts.
-fn reached_at(element: usize, tank: usize, passed: Passed, gauges: usize) -> Reached
-    ensures { result ≡ record { element = element; tank = tank; passed = passed; gauges = gauges } }
-{
-    Reached {
-        element,
-        tank,
-        passed,
-        gauges,
-    }
-}
-
 // Before the first of n elements.
 fn begun(n: usize) -> Reached
     ensures { result ≡ record { element = 0; tank = n; passed = record { basins = 0; dams = 0 }; gauges = 0 } }
 {
-    let none = Passed { basins: 0, dams: 0 };
-    reached_at(0, n, none, 0)
+    Reached {
+        element: 0,
+        tank: n,
+        passed: Passed { basins: 0, dams: 0 },
+        gauges: 0,
+    }
 }
 
 // The elements from one on up to the next one of tanks, each as one lead, of number 0: how far the step has then come, where one of tanks is
@@ -165,7 +155,12 @@ fn work_run(
         let here = gauge_here(table, n, m, g, i);
         let observation = observation_here(observed, here, g);
         if let Some(Kind::Tanks) = kind_at(table, i) {
-            return Ok(Some(reached_at(i, from.tank, passed, g)));
+            return Ok(Some(Reached {
+                element: i,
+                tank: from.tank,
+                passed,
+                gauges: g,
+            }));
         }
         add_old_outflow(table, i, state, &mut *space);
         let taken = step_input(table, i, weights[i], bytes, basins, passed, observation);
@@ -219,10 +214,12 @@ fn past_tanks(table: &[u8], n: usize, m: usize, met: Reached) -> Reached
     ensures { result ≡ past_tanks (table_in table.now) met }
 {
     let i = met.element;
-    let g = met.gauges;
-    let passed = met.passed;
-    let here = gauge_here(table, n, m, g, i);
-    reached_at(i + 1, met.tank + extra_at(table, i), passed, g + here)
+    Reached {
+        element: i + 1,
+        tank: met.tank + extra_at(table, i),
+        passed: met.passed,
+        gauges: met.gauges + gauge_here(table, n, m, met.gauges, i),
+    }
 }
 
 // All elements, one after the other, runs of those that are one cell and between them those of tanks; then the new figures of all cells stand
