@@ -68,8 +68,8 @@ use Rattle.network_step.specs.declared.Passed.{Passed}
 use Rattle.network_step.specs.declared.StepInput.{StepInput}
 use Rattle.network_step.specs.Inputs.{input_of, own_number, passed_by, step_input}
 use Rattle.network_step.specs.declared.Reached.{Reached}
-use Rattle.network_step.specs.Held.{
 use Rattle.elements.specs.declared.Kind.{Kind}
+use Rattle.network_step.specs.Held.{
   place_count,
   Cleared,
   OldReady,

@@ -10,12 +10,12 @@ ghost use Rattle.answer_space.specs.Places.{added};
 ghost use Rattle.network_step.specs.Inputs.{input_of, step_input, StepInputReady};
 ghost use Rattle.network_step.specs.Held.{StepReady, place_count, Cleared, OldReady, RunReady, RunEnded, TanksReady, TanksTurned, PastReady, past_tanks, StepWorked};
 
-use rating::RatedReading;
 use answer_space::add_figures;
 use elements::{Element, Kind, down_at, element_at, extra_at, kind_at, noise_at};
 use inflow::{mean_rain_inflow, old_outflow};
 use lead_walk::store_tank;
 use one_lead::ElementInput;
+use rating::RatedReading;
 use readings::{gauge_here, observation_here};
 use record::{rain_at, release_at};
 use refusal::Refusal;
@@ -25,7 +25,12 @@ use tank_walk::{TankPlaces, open_tanks};
 
 // What a step works an element out of: its weight, its own number, lead 0, and what its gauge observed.
 #[tactic(auto, unfolding(crate::specs::Inputs::input_of))]
-fn input_of(element: Element, weight: u64, own: u64, observation: Option<RatedReading>) -> ElementInput
+fn input_of(
+    element: Element,
+    weight: u64,
+    own: u64,
+    observation: Option<RatedReading>,
+) -> ElementInput
     ensures { result ≡ input_of element weight own observation }
 {
     ElementInput {
