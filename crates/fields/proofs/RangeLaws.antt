@@ -109,6 +109,11 @@ module _ (test one : ℕ → Bool) where
       let rest = all-range (a + 1) n (λ k l m. h k (omega arith) (omega arith)) in
       rw (← and_assoc (all_below test a) (one a), more, rest, next)
 
+-- `all` over the numbers from 0 on
+pub all-first : (test : ℕ → Bool) (n : ℕ) → list_all test (range_with_len 0 n) ≡ all_below test n
+unfolding all_below
+all-first test n = let e : 0 + n ≡ n = omega arith in rw e at (all-range test test 0 n (λ k l m. refl))
+
 -- tests that agree below n
 pub all_same : (one other : ℕ → Bool) (n : ℕ) → ((k : ℕ) → k < n → one k ≡ other k) → all_below one n ≡ all_below other n
 unfolding all_below
