@@ -1,8 +1,9 @@
 -- Only serves the code: what it finds of rules 5 and 6, and of basins, dams and extra tanks, while it looks along the elements.
-use Rattle.std.specs.Prelude.{ℕ, Bool, true, false, List, ◌≡◌, Result, Ok, Err}
+use Prim.{Unit}
+use Rattle.std.specs.Prelude.{ℕ, Bool, true, List, ◌≡◌, Result, Ok, Err}
 use Rattle.refusal.specs.declared.Refusal.{Refusal}
 use Rattle.refusal.specs.Refusals.{number}
-use Rattle.refusal.specs.Answers.{Answer, accepted, refused, rule}
+use Rattle.refusal.specs.Answers.{accepted, refused, rule}
 use Rattle.fields.specs.Ranges.{all_below}
 use Rattle.elements.specs.Elements.{element_at}
 use Rattle.elements.specs.Rules.{element_fits, down_fits}
@@ -26,6 +27,6 @@ pub record KindsCounted (table : List ℕ) (step n : ℕ) (kinds : KindCounts) :
   pub extra : kinds.extra ≡ extra_before (table_of table) n
 
 -- or the number of the first that they do not keep
-unfoldable pub Judged : List ℕ → ℕ → ℕ → Result KindCounts Refusal → Type 0
+abbrev pub Judged : List ℕ → ℕ → ℕ → Result KindCounts Refusal → Type 0
 Judged table step n (Ok kinds) = KindsCounted table step n kinds
-Judged table step n (Err r) = ◌≡◌ {A = Answer ℕ} (refused (number r)) (rule 5 (elements_fit table step n) (rule 6 (downs_fit table n) (accepted 0)))
+Judged table step n (Err r) = rule {A = Unit} 5 (elements_fit table step n) (rule 6 (downs_fit table n) (accepted tt)) ≡ refused (number r)

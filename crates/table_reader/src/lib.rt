@@ -33,7 +33,8 @@ fn judge_elements(table: &[u8], step: u64, n: usize) -> Result<KindCounts, Refus
     let mut dams: usize = 0;
     let mut extra: usize = 0;
     for i in 0..n {
-        match judge_element(step, element_at(table, i)).ok_or(Refusal::ElementField)? {
+        let kind = judge_element(step, element_at(table, i)).ok_or(Refusal::ElementField)?;
+        match kind {
             Kind::Basin => {
                 basins += 1;
             }
@@ -45,9 +46,7 @@ fn judge_elements(table: &[u8], step: u64, n: usize) -> Result<KindCounts, Refus
                 extra += extra_at(table, i);
             }
         }
-        if !down_fits(table, n, i) {
-            later = false;
-        }
+        later &= down_fits(table, n, i);
     }
     if !later {
         return Err(Refusal::ElementDown);

@@ -1,48 +1,74 @@
 -- `judge_elements` meets its contract.
-use Prim.Native.Nat.{ℕ, ◌+◌, ◌≤◌}
-use mathlib.Core.Bool.{Bool, true, false, ◌&&◌, true≢false}
+use Prim.Native.Nat.{ℕ, ◌+◌, ◌-◌, ◌≤◌}
+use mathlib.Core.Bool.{true}
 use mathlib.Core.Path.{◌≡◌, refl, sym, ap, ◌∙◌}
-use borrow.Author.Rules.{rules}
 use native.Mathlib.Omega.{arith}
-use Rattle.fields.specs.Ranges.{all_below}
+use Rattle.std.proofs.Common.{rules}
+use Rattle.std.specs.Prelude.{Option, Some, None}
+use Rattle.std.proofs.lemmas.Result.{err_from_is_err_and}
+use Rattle.refusal.specs.declared.Refusal.TheVariants.{ElementField}
 use Rattle.fields.proofs.RangeLaws.{all_none, all_more, all-fails}
+use Rattle.elements.specs.declared.Kind.{Kind}
+use Rattle.elements.specs.declared.Kind.TheVariants.{Basin, Reach, Dam, Tanks}
 use Rattle.elements.specs.declared.Element.{Element}
 use Rattle.elements.specs.Elements.{element_at}
-use Rattle.elements.specs.Kinds.{basin_of, dam_of, extra_tanks}
-use Rattle.elements.specs.Rules.{element_fits, down_fits}
-use Rattle.element_rules.specs.declared.JudgedElement.{JudgedElement}
+use Rattle.elements.specs.Kinds.{by_kind, basin_of, dam_of, extra_tanks}
+use Rattle.elements.specs.Rules.{element_fits}
 use Rattle.element_rules.specs.Judged.{judged}
-use Rattle.element_rules.proofs.JudgedLaws.{
-  refused-said,
-  basin-said,
-  reach-said,
-  dam-said,
-  tanks-said,
-  basin-single,
-  reach-single,
-  dam-single,
-  tanks-counted,
-}
+use Rattle.element_rules.proofs.JudgedLaws.{refused-said, kept-said, no-extra, extra-counted}
 use Rattle.table.specs.Tables.{table_of}
 use Rattle.table.proofs.CountLaws.{count_none, count-more, basins-most, dams-most, extra-none, extra-more}
-use Rattle.table_reader.specs.declared.ElementsJudged.{ElementsJudged}
 use Rattle.table_reader.proofs.judge_elements.Goals as goal
-use Rattle.table_reader.proofs.judge_elements.Goals.{in-Basin, in-Reach, in-Dam, in-Tanks, then-not-down_fits, else-not-down_fits}
+use Rattle.table_reader.proofs.judge_elements.Goals.{in-Basin, in-Reach, in-Dam, in-Tanks}
+
+-- an element that keeps rule 5, and what it adds to what is counted
+record Adds (step : ℕ) (e : Element) (b d x : ℕ) : Type 0 where
+  pub fits : element_fits step e ≡ true
+  pub basins : b ≡ basin_of e.kind
+  pub dams : d ≡ dam_of e.kind
+  pub extra : x ≡ extra_tanks e
+  pub few : x ≤ 7
+
+-- what was counted before it, and with it
+record Added (step : ℕ) (e : Element) (b d x b' d' x' : ℕ) : Type 0 where
+  pub one : ℕ
+  pub two : ℕ
+  pub three : ℕ
+  pub by : Adds step e one two three
+  pub basins : b' ≡ b + one
+  pub dams : d' ≡ d + two
+  pub extra : x' ≡ x + three
+
+-- by each kind
+module _ (step : ℕ) (e : Element) {r : Option Kind} (is : r ≡ judged step e) where
+  basin-adds : r ≡ Some Basin → Adds step e 1 0 0
+  unfolding basin_of dam_of by_kind
+  basin-adds s =
+      let k = kept-said step e is s in
+      record { fits = k.0; basins = rw k.1; dams = rw k.1; extra = sym (no-extra step e is s (λ t. cc)); few = omega arith }
+
+  reach-adds : r ≡ Some Reach → Adds step e 0 0 0
+  unfolding basin_of dam_of by_kind
+  reach-adds s =
+      let k = kept-said step e is s in
+      record { fits = k.0; basins = rw k.1; dams = rw k.1; extra = sym (no-extra step e is s (λ t. cc)); few = omega arith }
+
+  dam-adds : r ≡ Some Dam → Adds step e 0 1 0
+  unfolding basin_of dam_of by_kind
+  dam-adds s =
+      let k = kept-said step e is s in
+      record { fits = k.0; basins = rw k.1; dams = rw k.1; extra = sym (no-extra step e is s (λ t. cc)); few = omega arith }
+
+  tanks-adds : r ≡ Some Tanks → Adds step e 0 0 (e.runoff - 1)
+  unfolding basin_of dam_of by_kind
+  tanks-adds s =
+      let k = kept-said step e is s in
+      let x = extra-counted step e is s in
+      record { fits = k.0; basins = rw k.1; dams = rw k.1; extra = sym x.0; few = omega (arith, x.1) }
 
 -- what rule 5 says of the element that was read
-judged-is :
-    (step : ℕ)
-    (read at : Element)
-    {r : JudgedElement}
-    → r ≡ judged step read
-    → read ≡ at
-    → r ≡ judged step at
-judged-is step read at h e = h ∙ ap (judged step) e
-
--- a test that holds leaves what was joined before it
-joined-true : (all one : Bool) → one ≡ true → all ≡ (all && one)
-joined-true true one e = sym e
-joined-true false one e = refl
+judged-is : (step : ℕ) {read at : Element} {r : Option Kind} → r ≡ judged step read → read ≡ at → r ≡ judged step at
+judged-is step h e = h ∙ ap (judged step) e
 
 pub loop-i-init : goal.loop-i-init
 loop-i-init c = (
@@ -50,75 +76,54 @@ loop-i-init c = (
   (sym (all_none _), (all_none _, (count_none _ _, (count_none _ _, extra-none _)))),
 )
 
--- an element that is kept, and what it adds to what is counted
-module _ (c : goal.Joined-not-down_fits) where
-  abbrev e : Element
-  e = element_at c.args.table.now c.loop-i.i
+pub returns-in_err-kind : goal.returns-in_err-kind
+returns-in_err-kind c =
+    let is = judged-is c.args.step c.judge_element.ensures c.element_at.ensures in
+    let none : c.judge_element.result ≡ None = grind arith in
+    let error : c.in_err-kind.field-0.0 ≡ ElementField = grind arith in
+    let p = err_from_is_err_and c.from_residual.result c.from_residual.ensures.1 in
+    rw (p.1, p.2, error, all-fails _ _ _ c.loop-i-test.true (refused-said _ _ is none))
 
-  is : c.judge_element-judged.result ≡ judged c.args.step e
-  is = judged-is _ _ _ c.judge_element-judged.ensures c.element_at.ensures
+pub extra_at-extra-requires : goal.extra_at-extra-requires
+extra_at-extra-requires c =
+    let is = judged-is c.args.step c.judge_element.ensures c.element_at.ensures in
+    let some : c.judge_element.result ≡ Some c.in_ok-kind.kind = grind arith in
+    (search rules, omega (arith, extra-counted _ _ is (rw c.in-Tanks.is at some)))
 
-  counted :
-      (element_fits c.args.step e ≡ true)
-      × ((c.match-judged.basins ≡ c.loop-i.basins + basin_of e.kind)
-      × ((c.match-judged.dams ≡ c.loop-i.dams + dam_of e.kind)
-      × ((c.match-judged.extra ≡ c.loop-i.extra + extra_tanks e) × (extra_tanks e ≤ 7))))
-  counted =
-      elim c.match-judged.branch [
-        | in-Basin w ↦ (let k = basin-said _ _ is w.in-Basin.is in let x = basin-single _ _ is w.in-Basin.is in (k.fits, (omega (arith, k.basins, w.basins-is), (omega (arith, k.dams, w.dams-is), (omega (arith, x, w.extra-is), omega (arith, x))))))
-        | in-Reach w ↦ (let k = reach-said _ _ is w.in-Reach.is in let x = reach-single _ _ is w.in-Reach.is in (k.fits, (omega (arith, k.basins, w.basins-is), (omega (arith, k.dams, w.dams-is), (omega (arith, x, w.extra-is), omega (arith, x))))))
-        | in-Dam w ↦ (let k = dam-said _ _ is w.in-Dam.is in let x = dam-single _ _ is w.in-Dam.is in (k.fits, (omega (arith, k.basins, w.basins-is), (omega (arith, k.dams, w.dams-is), (omega (arith, x, w.extra-is), omega (arith, x))))))
-        | in-Tanks w ↦ (let k = tanks-said _ _ is w.in-Tanks.is in let x = tanks-counted _ _ is w.in-Tanks.is in (k.fits, (omega (arith, k.basins, w.basins-is), (omega (arith, k.dams, w.dams-is), (omega (arith, x, w.extra-is, w.extra_at-extra.ensures), omega (arith, x))))))
-      ]
-
--- rule 6 on the elements so far
-later :
-    (c : goal.Joined-not-down_fits)
-    → c.if-not-down_fits.later ≡ all_below (down_fits c.args.n (element_at c.args.table.now)) (c.loop-i.i + 1)
-later c =
-    elim c.if-not-down_fits.branch [
-      | then-not-down_fits w ↦ w.later-is ∙ sym (all-fails _ _ _ (omega arith) (sym c.down_fits.ensures ∙ w.if-not-down_fits.true))
-      | else-not-down_fits w ↦ w.later-is ∙ (joined-true _ _ w.if-not-down_fits.false ∙ all_more _ _ c.loop-i.invariant.1.1.0 c.down_fits.ensures)
-    ]
+pub overflow_add-extra : goal.overflow_add-extra
+overflow_add-extra c =
+    let is = judged-is c.args.step c.judge_element.ensures c.element_at.ensures in
+    let some : c.judge_element.result ≡ Some c.in_ok-kind.kind = grind arith in
+    omega (arith, c.extra_at-extra.ensures, extra-counted _ _ is (rw c.in-Tanks.is at some))
 
 pub loop-i-preserved : goal.loop-i-preserved
 unfolding table_of
 loop-i-preserved c =
+    let e = element_at c.args.table.now c.loop-i.i in
+    let is = judged-is c.args.step c.judge_element.ensures c.element_at.ensures in
+    let some : c.judge_element.result ≡ Some c.in_ok-kind.kind = grind arith in
+    let added : Added c.args.step e c.loop-i.basins c.loop-i.dams c.loop-i.extra c.match-kind.basins c.match-kind.dams c.match-kind.extra =
+    elim c.match-kind.branch [
+      | in-Basin w ↦ (let a = basin-adds _ _ is (rw w.in-Basin.is at some) in record { one = 1; two = 0; three = 0; by = a; basins = omega (arith, w.basins-is); dams = omega (arith, w.dams-is); extra = omega (arith, w.extra-is) })
+      | in-Reach w ↦ (let a = reach-adds _ _ is (rw w.in-Reach.is at some) in record { one = 0; two = 0; three = 0; by = a; basins = omega (arith, w.basins-is); dams = omega (arith, w.dams-is); extra = omega (arith, w.extra-is) })
+      | in-Dam w ↦ (let a = dam-adds _ _ is (rw w.in-Dam.is at some) in record { one = 0; two = 1; three = 0; by = a; basins = omega (arith, w.basins-is); dams = omega (arith, w.dams-is); extra = omega (arith, w.extra-is) })
+      | in-Tanks w ↦ (let a = tanks-adds _ _ is (rw w.in-Tanks.is at some) in record { one = 0; two = 0; three = e.runoff - 1; by = a; basins = omega (arith, w.basins-is); dams = omega (arith, w.dams-is); extra = omega (arith, w.extra-is, w.extra_at-extra.ensures) })
+    ] in
     let inv = c.loop-i.invariant in
-    let k = counted c in
     let values = table_of c.args.table.now in
     let i = c.loop-i.i in
-    let basins = k.1.0 ∙ count-more basin_of values i inv.1.1.1.0 refl refl in
-    let dams = k.1.1.0 ∙ count-more dam_of values i inv.1.1.1.1.0 refl refl in
-    let extra = k.1.1.1.0 ∙ extra-more values i inv.1.1.1.1.1 refl in (
+    let basins = added.basins ∙ count-more basin_of values i inv.1.1.1.0 added.by.basins refl in
+    let dams = added.dams ∙ count-more dam_of values i inv.1.1.1.1.0 added.by.dams refl in
+    let extra = added.extra ∙ extra-more values i inv.1.1.1.1.1 added.by.extra in (
       (
-        omega (arith, c.loop-i-test.true),
+        omega arith,
         (
           omega (arith, basins, basins-most values (i + 1)),
-          (omega (arith, dams, dams-most values (i + 1)), omega (arith, k.1.1.1, inv.0.1.1.1)),
+          (omega (arith, dams, dams-most values (i + 1)), omega (arith, added.extra, added.by.few, inv.0.1.1.1)),
         ),
       ),
-      (sym (all_more _ _ (sym inv.1.0) (sym k.0)), (later c, (basins, (dams, extra)))),
+      (
+        sym (all_more _ _ (sym inv.1.0) (sym added.by.fits)),
+        (all_more _ _ inv.1.1.0 c.down_fits-later.ensures, (basins, (dams, extra))),
+      ),
     )
-
-pub returns-in-Refused : goal.returns-in-Refused
-returns-in-Refused c =
-    let none : c.elements_judged.result.fit ≡ true → ⊥ = λ e. true≢false (sym e ∙ ap (λ (r : ElementsJudged). r.fit) c.elements_judged.ensures) in
-    let is = judged-is _ _ _ c.judge_element-judged.ensures c.element_at.ensures in
-    record {
-      fit = ap (λ (r : ElementsJudged). r.fit) c.elements_judged.ensures ∙ sym (all-fails _ _ _ c.loop-i-test.true (refused-said _ _ is c.in-Refused.is));
-      later = λ e. absurd (none e);
-      basins = λ e. absurd (none e);
-      dams = λ e. absurd (none e);
-      extra = λ e. absurd (none e);
-    }
-
-pub extra_at-extra-requires : goal.extra_at-extra-requires
-extra_at-extra-requires c =
-    let is = judged-is _ _ _ c.judge_element-judged.ensures c.element_at.ensures in
-    (search rules, omega (arith, tanks-counted _ _ is c.in-Tanks.is))
-
-pub overflow_add-extra : goal.overflow_add-extra
-overflow_add-extra c =
-    let is = judged-is _ _ _ c.judge_element-judged.ensures c.element_at.ensures in
-    omega (arith, c.extra_at-extra.ensures, tanks-counted _ _ is c.in-Tanks.is)
