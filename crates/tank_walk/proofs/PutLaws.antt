@@ -1,53 +1,71 @@
--- A row of places put one after the other.
-use Prim.Native.Nat.{ℕ, ◌+◌, ◌*◌, ◌≤◌, ◌<◌}
+-- A row of places of the space written at once.
+use Prim.Native.Nat.{ℕ, ◌+◌, ◌-◌, ◌*◌, ◌≤◌, ◌<◌}
 use mathlib.Core.List.{List}
-use mathlib.Core.Logic.{◌≢◌, ⊎_elim}
-use mathlib.Core.Path.{◌≡◌, refl, ◌∙◌}
-use native.Mathlib.Nat.{eq-or-lt_of_le}
+use mathlib.Core.Logic.{◌≢◌}
+use mathlib.Core.Path.{◌≡◌, ap, ◌∙◌}
+use native.Mathlib.Decide.{dec_le}
 use native.Mathlib.Omega.{arith}
-use lib.ListN.{length}
-use Rattle.lead_walk.specs.Worked.{Apart}
-use Rattle.method.specs.declared.Figures.{Figures}
-use Rattle.answer_space.specs.Places.{figures_at, put}
-use Rattle.answer_space.proofs.PlacesLaws.{put-length, put-here, put_other}
+use lib.ListN.{get_or}
+use Rattle.method.specs.Inflow.{no_inflow}
+use Rattle.answer_space.specs.Places.{figures_at}
+use Rattle.tank_walk.specs.Tanks.{RowCleared, RowMoved}
 
--- after k of them, with what is put at each
-pub record RowSoFar (what : ℕ → Figures) (place leads : ℕ) (before : List ℕ) (k : ℕ) (now : List ℕ) : Type 0 where
-  pub few : k ≤ leads
-  pub size : length now ≡ length before
-  pub there : (l : ℕ) → l < k → figures_at now (place + l) ≡ what l
-  pub others : (p : ℕ) → ((l : ℕ) → l < k → p ≢ place + l) → figures_at now p ≡ figures_at before p
+-- two places with the same four numbers
+same-place :
+    (p q : ℕ) (after before : List ℕ)
+    → ((a b j : ℕ) → j < 4 → a ≡ 4 * p + j → b ≡ 4 * q + j → get_or after a 0 ≡ get_or before b 0)
+    → figures_at after p ≡ figures_at before q
+unfolding figures_at
+same-place p q after before h =
+    rw (
+      h (4 * p) (4 * q) 0 (omega arith) (omega arith) (omega arith),
+      h (4 * p + 1) (4 * q + 1) 1 (omega arith) (omega arith) (omega arith),
+      h (4 * p + 2) (4 * q + 2) 2 (omega arith) (omega arith) (omega arith),
+      h (4 * p + 3) (4 * q + 3) 3 (omega arith) (omega arith) (omega arith),
+    )
 
-module _ (what : ℕ → Figures) (place leads : ℕ) (before : List ℕ) where
-  pub row-begin : RowSoFar what place leads before 0 before
-  row-begin = record { few = omega arith; size = refl; there = λ l m. absurd (omega arith); others = λ p a. refl }
+-- the numbers outside of the row are as before
+module _
+    (place leads : ℕ) (before after : List ℕ) (below : (k : ℕ) → k < 4 * place → get_or after k 0 ≡ get_or before k 0)
+    (above : (k : ℕ) → 4 * (place + leads) ≤ k → get_or after k 0 ≡ get_or before k 0) where
+  other-places : (p : ℕ) → ((l : ℕ) → l < leads → p ≢ place + l) → figures_at after p ≡ figures_at before p
+  other-places p apart = go (dec_le place p) (dec_le (place + leads) p)
+    where
+      same : {a b : ℕ} → a ≡ b → get_or before a 0 ≡ get_or before b 0
+      same e = ap (λ (k : ℕ). get_or before k 0) e
 
-  pub row-again :
-      (k : ℕ) (now after : List ℕ) (f : Figures)
-      → RowSoFar what place leads before k now
-      → k < leads
-      → 4 * (place + leads) ≤ length before
-      → f ≡ what k
-      → after ≡ put now (place + k) f
-      → RowSoFar what place leads before (k + 1) after
-  row-again k now after f h less room is done =
+      go : Dec (place ≤ p) → Dec (place + leads ≤ p) → figures_at after p ≡ figures_at before p
+      go (no n) d = same-place p p after before (λ a b j l e f. below a (omega arith) ∙ same (omega arith))
+      go (yes y) (yes z) = same-place p p after before (λ a b j l e f. above a (omega arith) ∙ same (omega arith))
+      go (yes y) (no n) = absurd (apart (p - place) (omega arith) (omega arith))
+
+  -- cleared
+  pub row-cleared :
+      ((k : ℕ) → 4 * place ≤ k → k < 4 * (place + leads) → get_or after k 0 ≡ 0) → RowCleared place leads before after
+  unfolding figures_at no_inflow
+  row-cleared none =
       record {
-        few = omega arith;
-        size = rw done (put-length now (place + k) f ∙ h.size);
-        there =
+        cleared =
             λ l m.
-            rw done
-            (⊎_elim (λ e. rw e (put-here now (place + k) f (omega (arith, room, less, h.size)) ∙ is))
-            (λ n. put_other now (place + k) f (place + l) (λ q. omega (arith, q, n)) ∙ h.there l n) (eq-or-lt_of_le (omega arith)));
-        others = λ p a. rw done (put_other now (place + k) f p (a k (omega arith)) ∙ h.others p (λ l m. a l (omega (arith, m))));
+            rw (
+              none (4 * (place + l)) (omega arith) (omega arith),
+              none (4 * (place + l) + 1) (omega arith) (omega arith),
+              none (4 * (place + l) + 2) (omega arith) (omega arith),
+              none (4 * (place + l) + 3) (omega arith) (omega arith),
+            );
+        others = other-places;
       }
 
--- what is still to be moved stands as it stood
-pub source_stays :
-    (what : ℕ → Figures) (source place leads k : ℕ) (before now : List ℕ)
-    → RowSoFar what place leads before k now
-    → k < leads
-    → Apart source place leads
-    → figures_at now (source + k) ≡ figures_at before (source + k)
-source_stays what source place leads k before now h less apart =
-    h.others (source + k) (λ l m e. ⊎_elim (λ a. omega (arith, a, e, m, less)) (λ b. omega (arith, b, e, m, less)) apart)
+  -- moved
+  pub row-moved :
+      (source : ℕ)
+      → ((k : ℕ) → 4 * place ≤ k → k < 4 * (place + leads) → get_or after k 0 ≡ get_or before (4 * source + (k - 4 * place)) 0)
+      → RowMoved source place leads before after
+  row-moved source moved =
+      record {
+        moved =
+            λ l m.
+            same-place (place + l) (source + l) after before
+            (λ a b j n e f. moved a (omega arith) (omega arith) ∙ ap (λ (k : ℕ). get_or before k 0) (omega arith));
+        others = other-places;
+      }

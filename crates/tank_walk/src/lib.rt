@@ -4,13 +4,11 @@
 ghost use Rattle.std.specs.Prelude.{◌≡◌, ◌+◌, ◌*◌, ◌≤◌, length};
 ghost use Rattle.tank_walk.specs.Tanks.{tank_place, RowCleared, RowMoved, MoveReady, PlaceFits, TankTurnReady, TankTurned, TanksReady, TanksAnswered, TanksOpened};
 
-use answer_space::{figures_at, put_figures};
 use lead_walk::store_tank;
 use method::Figures;
 use refusal::Refusal;
 use sizes::STATE_NUMBERS;
 use state::figures_of;
-use units::{Discharge, Variance};
 
 // Where the tanks of an element stand in the working space: the element's own place, at which its sums wait and its last tank comes to stand,
 // the first place of the others, how many places lie from one of them to the next, and how many leads each has, a step being one.
@@ -23,6 +21,7 @@ pub struct TankPlaces {
 }
 
 // The place of tank j, with so many above the last.
+#[tactic(auto, unfolding(crate::specs::Tanks::tank_place))]
 fn tank_place(places: TankPlaces, extra: usize, j: usize) -> usize
     requires { PlaceFits places extra j }
     ensures { result ≡ tank_place places extra j }
@@ -38,15 +37,7 @@ fn clear_row(place: usize, leads: usize, space: &mut [u64])
     requires { 4 * (place + leads) ≤ length space.old }
     ensures { RowCleared place leads space.old space.new }
 {
-    for k in 0..leads {
-        let none = Figures {
-            discharge: Discharge(0),
-            discharge_margin: Discharge(0),
-            variance: Variance(0),
-            variance_margin: Variance(0),
-        };
-        put_figures(&mut *space, place + k, none);
-    }
+    space[4 * place..4 * (place + leads)].fill(0);
 }
 
 // What stands at so many places, at others.
@@ -54,10 +45,7 @@ fn move_row(source: usize, place: usize, leads: usize, space: &mut [u64])
     requires { MoveReady source place leads space.old }
     ensures { RowMoved source place leads space.old space.new }
 {
-    for k in 0..leads {
-        let f = figures_at(&*space, source + k);
-        put_figures(&mut *space, place + k, f);
-    }
+    space.copy_within(4 * source..4 * (source + leads), 4 * place);
 }
 
 // Tank j, from its figures before: the places of the next, cleared first, take what it lets out. 16 where a number passes the ceiling.
