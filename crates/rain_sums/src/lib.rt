@@ -11,13 +11,15 @@ use sizes::STATE_NUMBERS;
 use state::{Rains, rains_of};
 
 // The smaller of 3 and the step count.
+#[tactic(auto, unfolding(network::specs::Forecast::rain_count))]
 pub fn rain_count(steps: u64) -> u64
     ensures { (result ≡ rain_count steps) × (result ≤ 3) }
 {
-    if steps < 3 { steps } else { 3 }
+    steps.min(3)
 }
 
 // The sum of the last rains.
+#[tactic(auto, unfolding(network::specs::Forecast::rain_sum))]
 fn rain_sum(rains: Rains, count: u64) -> u64
     requires { (count ≤ 3) × RainsUnder rains }
     ensures { (result ≡ rain_sum rains count) × (result ≤ 9000) }
