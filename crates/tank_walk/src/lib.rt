@@ -2,13 +2,28 @@
 #![tactic(auto)]
 
 ghost use Rattle.std.specs.Prelude.{◌≡◌, ◌+◌, ◌*◌, ◌≤◌, length};
+ghost use Rattle.elements.specs.Elements.{element_at};
+ghost use Rattle.elements.specs.Kinds.{tanks, same_kind};
 ghost use Rattle.tank_walk.specs.Tanks.{tank_place, RowCleared, RowMoved, MoveReady, PlaceFits, TankTurnReady, TankTurned, TanksReady, TanksAnswered, TanksOpened};
 
+use elements::{Kind, kind_at};
 use lead_walk::store_tank;
 use method::Figures;
 use refusal::Refusal;
 use sizes::STATE_NUMBERS;
 use state::figures_of;
+
+// Whether element i is one of tanks.
+#[tactic(auto, unfolding(elements::specs::Kinds::same_kind))]
+pub fn is_tanks(table: &[u8], i: usize) -> bool
+    requires { (i ≤ 1000) × (26 * i + 36 ≤ length table.now) }
+    ensures { result ≡ same_kind (element_at table.now i).kind tanks }
+{
+    match kind_at(table, i) {
+        Some(Kind::Tanks) => true,
+        Some(Kind::Basin | Kind::Reach | Kind::Dam) | None => false,
+    }
+}
 
 // Where the tanks of an element stand in the working space: the element's own place, at which its sums wait and its last tank comes to stand,
 // the first place of the others, how many places lie from one of them to the next, and how many leads each has, a step being one.
