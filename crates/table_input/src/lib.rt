@@ -5,16 +5,15 @@ ghost use Rattle.std.specs.Prelude.{◌≡◌, ◌≤◌, length};
 ghost use Rattle.sizes.specs.Sizes.{most_elements};
 ghost use Rattle.table_input.specs.Starts.{TableEnd, StartedOn, StartedOnInput};
 
-use refusal::Refusal;
 use fields::bytes::read32;
+use refusal::Refusal;
 use sizes::{STATE_NUMBERS, TABLE_BYTES};
 use table::Counts;
 
-// The verdict on a table, its counts where it is accepted, and how many bytes of the input it has.
+// The counts of a table, or its refusal, and how many bytes of the input it has.
 #[derive(Clone, Copy)]
 pub struct TableStart {
-    pub verdict: Result<(), Refusal>,
-    pub counts: Counts,
+    pub counts: Result<Counts, Refusal>,
     pub length: usize,
 }
 
@@ -26,43 +25,22 @@ fn table_length(input: &[u8]) -> usize
     if counted > TABLE_BYTES as u64 {
         return 0;
     }
-    let left = input.len();
-    if counted as usize <= left {
-        counted as usize
-    } else {
-        left
-    }
+    input.len().min(counted as usize)
 }
 
 // A start on the bytes of a table; its weights are put into lent numbers where it is accepted.
 fn start_on(
     table: &[u8],
-    size: usize,
     weights: &mut [u64],
     state: &mut [u64; STATE_NUMBERS],
-) -> TableStart
+) -> Result<Counts, Refusal>
     requires { most_elements ≤ length weights.old }
-    ensures { StartedOn table.now state.old result weights.new state.new × (result.length ≡ size) }
+    ensures { StartedOn table.now state.old result weights.new state.new }
 {
-    let read = table_reader::read(table);
-    let verdict = read.verdict;
-    let counts = read.counts;
-    match verdict {
-        Ok(()) => {
-            first_values::start_on(table, counts.elements, state);
-            element_weights::put_weights(table, counts.step, counts.elements, weights);
-            TableStart {
-                verdict,
-                counts,
-                length: size,
-            }
-        }
-        Err(_) => TableStart {
-            verdict,
-            counts,
-            length: size,
-        },
-    }
+    let counts = table_reader::read(table)?;
+    first_values::start_on(table, counts.elements, state);
+    element_weights::put_weights(table, counts.step, counts.elements, weights);
+    Ok(counts)
 }
 
 // A start on the table that the input begins with.
@@ -74,6 +52,9 @@ pub fn started_on_input(
     requires { most_elements ≤ length weights.old }
     ensures { StartedOnInput input.now state.old result weights.new state.new }
 {
-    let size = table_length(input);
-    start_on(&input[..size], size, &mut *weights, state)
+    let length = table_length(input);
+    TableStart {
+        counts: start_on(&input[..length], weights, state),
+        length,
+    }
 }
