@@ -4,7 +4,6 @@ use Prim.Native.Nat.{ℕ, suc, ◌+◌, ◌≤◌, ◌<◌}
 use mathlib.Core.List.{List}
 use mathlib.Core.Logic.{◌≢◌}
 use mathlib.Core.Path.{◌≡◌, refl, sym, ap, ◌∙◌}
-use borrow.Author.Tests.{eq-eqb, ne_eqb}
 use native.Mathlib.Omega.{arith}
 use Rattle.units.specs.Units.{S, thousandths}
 use Rattle.method.specs.declared.Figures.{Figures}
@@ -29,7 +28,6 @@ use Rattle.element_step.specs.Bounds.{ElementInRange, tank_element}
 use Rattle.network.specs.Step.{no_observation}
 use Rattle.network.specs.Forecast.{rain_count, rain_sum, lead_inflow, forecast_own, lead_figures}
 use Rattle.network.proofs.NumbersLaws.{lead_own}
-use Rattle.one_lead.specs.declared.ElementInput.{ElementInput}
 use Rattle.one_lead.specs.Leads.{own_at_lead}
 use Rattle.element_step.specs.ElementStep.{released, own_of}
 use Rattle.element_step.specs.Answers.{own_at}
@@ -37,7 +35,7 @@ use Rattle.one_lead.specs.Worked.{InputInRange, tank_input}
 use Rattle.element_weights.specs.Weights.{element_weight}
 use Rattle.tank_walk.specs.Rows.{IsLast, own_row}
 use Rattle.lead_walk.proofs.NetworkLaws.{InputOf}
-use Rattle.network_leads.specs.Inputs.{input_of, own_number, lead_input}
+use Rattle.network_leads.specs.Inputs.{own_number, lead_input}
 use Rattle.elements.specs.declared.Kind.{Kind}
 
 -- ---- an element in use, and its last cell
@@ -72,7 +70,7 @@ module _ (bytes : List ℕ) (t : AcceptedTable bytes) {i : ℕ} (l : i < (table_
   basin-rains s h is k =
       let b : ((table_in bytes).element i).kind ≡ basin = ap (λ (x : Element). x.kind) (element-read bytes i l) ∙ (sym is ∙ k) in
       rw (last-place (table_in bytes) i l) at (h.rains (last_cell (table_in bytes) i) (last-in-use (table_in bytes) i l)
-      (ap (λ (x : Element). x.kind) (single-is (table_in bytes) i l (λ q. omega (arith, b, q))) ∙ b))
+      (ap (λ (x : Element). x.kind) (single-is (table_in bytes) i l (λ q. cc)) ∙ b))
 
   pub input-in-range :
       (weight count : ℕ) (s : State)
@@ -89,16 +87,6 @@ module _ (bytes : List ℕ) (t : AcceptedTable bytes) {i : ℕ} (l : i < (table_
         release = λ k. rw (by-dam (element_at bytes i).kind _ 0 (figures_of s i).discharge.0 0 k) (figures-fit s h).discharge;
         observation = tt;
       }
-
--- what the code makes of it, of whatever kind
-pub input-made :
-    (e : Element) (weight count : ℕ) (s : State) (i : ℕ) {read : Element} {own : ℕ} {r : ElementInput}
-    → read ≡ e
-    → own ≡ own_number e count s i
-    → r ≡ input_of read weight own
-    → r ≡ lead_input e weight count s i
-unfolding lead_input
-input-made e weight count s i is n made = made ∙ rw (n, is)
 
 -- ---- the element as the network has it
 

@@ -2,4 +2,3 @@ pub mod InputLaws
 pub mod WorkLaws
 pub mod TurnLaws
 pub mod TankTurnLaws
-pub mod RunLaws

@@ -1,21 +1,19 @@
 -- The turn of an element of tanks in the code of a forecast: the figures of its last put at lead 0, the tanks above it, and the last.
 use Prim.{Unit}
-use Rattle.std.specs.Prelude.{Result, Ok, Err, None}
+use Rattle.std.specs.Prelude.{Result, Ok, Err, None, IsErrAnd}
+use Rattle.std.proofs.lemmas.Result.{err_from_is_err_and}
 use Rattle.refusal.specs.Answers.{answer_of}
 use Prim.Native.Nat.{ℕ, ◌+◌, ◌*◌, ◌-◌, ◌≤◌, ◌<◌}
 use mathlib.Core.List.{List}
 use mathlib.Core.Logic.{◌≢◌, ⊎_elim, inl, inr}
 use mathlib.Core.Path.{◌≡◌, refl, sym, ap, subst, ◌∙◌}
-use borrow.Author.Tests.{eq-eqb}
 use native.Mathlib.Nat.{mul-le-mul_right, eq-or-lt_of_le}
 use native.Mathlib.Decide.{dec_le}
 use native.Mathlib.Omega.{arith}
 use lib.ListN.{length, get_or}
-use Rattle.sizes.specs.Sizes.{most_places, most_leads, forecast_space}
+use Rattle.sizes.specs.Sizes.{most_elements, most_places, most_leads, forecast_space}
 use Rattle.refusal.specs.declared.Refusal.{Refusal}
-use Rattle.refusal.specs.declared.Refusal.TheVariants.{AboveCeiling}
-use Rattle.refusal.proofs.RuleLaws.{not-both}
-use Rattle.units.proofs.UnderLaws.{refused-whole}
+use Rattle.units.proofs.UnderLaws.{refused-part}
 use Rattle.method.specs.declared.Figures.{Figures}
 use Rattle.method.specs.Figures.{FiguresFit}
 use Rattle.elements.specs.declared.Element.{Element}
@@ -26,7 +24,7 @@ use Rattle.table.specs.Tables.{TableValues}
 use Rattle.table.specs.KindCounts.{extra_before, extra_count}
 use Rattle.table.specs.InUse.{table_in}
 use Rattle.table.proofs.InUseLaws.{element-read}
-use Rattle.table.proofs.CountLaws.{extra-rise, extra-more, extra-read}
+use Rattle.table.proofs.CountLaws.{extra-none, extra-rise, extra-more, extra-read}
 use Rattle.table.proofs.HeldLaws.{element-there, tanks-known}
 use Rattle.cells.specs.Cells.{first_cell, last_cell, cells}
 use Rattle.cells.proofs.CellLaws.{last-is, last-in-use}
@@ -45,11 +43,12 @@ use Rattle.tank_walk.specs.declared.TankPlaces.{TankPlaces}
 use Rattle.tank_walk.specs.Tanks as tank-specs
 use Rattle.tank_walk.specs.Tanks.{tank_place, TanksThere, TanksOpened}
 use Rattle.tank_walk.proofs.RowLaws.{tank_row, tank-place, tank-last, tank-inner}
+use Rattle.tank_walk.proofs.TankLaws.{tanks-16}
 use Rattle.tank_walk.proofs.ForecastLaws.{tank-first, Ready, ready-tanks, tanks-pass, ready-small, last_under, forecast-again}
 use Rattle.element_weights.proofs.WeightsLaws.{weight-held, tank-weight}
-use Rattle.network_leads.specs.Worked.{Given, spare_rows, space_size, LeadsSoFar, TanksReady, TanksNext, TanksDone}
+use Rattle.network_leads.specs.Worked.{Given, Cleared, spare_rows, LeadsSoFar, LeadsPass, TanksReady, TanksNext, TanksDone}
 use Rattle.network_leads.proofs.InputLaws.{figures-fit, last-tank-input}
-use Rattle.network_leads.proofs.WorkLaws.{space-most, places-apart, worked-first, first-stays, tanks-stay}
+use Rattle.network_leads.proofs.WorkLaws.{space-most, places-apart, worked-begin, worked-first, first-stays, tanks-stay}
 use Rattle.network_leads.proofs.TurnLaws.{first-is, passes, row-there}
 use Rattle.elements.proofs.KindLaws.{eq-same}
 
@@ -207,12 +206,18 @@ module _
             (subst (λ (k : ℕ). TanksOpened r noise H k x places s space worked)
             (read ∙ (ap (λ (y : Element). y.runoff - 1) (sym (element-read bytes i used)) ∙ sym extra-is)) opened))
 
-        pub tanks-above : {k : Refusal} {after : List ℕ} → r ≡ Err k → TanksDone (Err AboveCeiling) t s L i after
-        tanks-above a =
-            record {
-              done = λ q. absurd (not-both (ap answer_of q) refl);
-              above = λ _ _. passes t s L (tanks-pass t s L i used bounds.later bounds.down noise H noise-is inner-weight some.0 held.walked opened-at a);
-            }
+        -- a number passes in one of them, and its refusal is passed on
+        pub tanks-above :
+            {answer : Result Unit Refusal} {k : Refusal} {after : List ℕ}
+            → r ≡ Err k
+            → IsErrAnd answer (λ (e : Refusal). e ≡ k)
+            → TanksDone answer t s L i after
+        tanks-above {answer} {k} a passed =
+            let q = err_from_is_err_and answer passed in
+            let passes : LeadsPass k t s L
+            = rw (tanks-16 opened-at.worked a)
+            (passes t s L (tanks-pass t s L i used bounds.later bounds.down noise H noise-is inner-weight some.0 held.walked opened-at a)) in
+            rw (q.1, q.2) (record { done = λ e. cc; above = λ j e. let same : k ≡ j = cc in rw (← same) passes })
 
         module _ (a : r ≡ (Ok tt)) where
           ready : Ready t s L i worked
@@ -234,7 +239,7 @@ module _
                   element = record { kind = inr (inl refl); system_noise = omega (arith, noise-is, bounds.system_noise); rain_noise = omega arith };
                   weight = g.weighed.1;
                   first_lead = omega arith;
-                  release = λ k. absurd (omega (arith, k));
+                  release = λ k. omega arith;
                   observation = tt;
                 };
                 fits = subst FiguresFit (sym first) (figures-fit bytes g.table used s g.state);
@@ -269,51 +274,86 @@ module _
                       first = λ k l. first-stays t s L i (t.element i).down (work.done y) k ∙ kept-first k l;
                     };
                 above = λ k y.
-                    refused-whole tt _ (lead_numbers t s L) (last_under t s L i used bounds.later bounds.down _ of f is ready)
+                    refused-part tt _ (lead_numbers t s L) (last_under t s L i used bounds.later bounds.down _ of f is ready)
                     (sym (ap answer_of y) ∙ work.verdict);
               }
 
--- ---- an element of tanks at which a run ended
+-- ---- the runs, and the elements of tanks between them
+
+-- what the loop over the runs holds: the elements before one are worked out, and the others of their tanks stand in the state before place x
+pub record RunsSoFar (t : TableValues) (s : State) (L n from x : ℕ) (begun space : List ℕ) : Type 0 where
+  pub few : from ≤ n
+  pub places : x ≡ n + extra_before t from
+  pub size : length space ≡ length begun
+  pub held : LeadsSoFar t s L from from space
 
 module _
-    {bytes : List ℕ} {n L from i : ℕ} {weight : List ℕ} {s : State} {space : List ℕ} (g : Given bytes n L weight s)
-    (next : TanksNext (table_in bytes) s L from i space) where
-  pub weight-there : i < length weight
-  weight-there = omega (arith, next.used, g.weights.room)
-
-  pub tanks-ready :
-      {x : ℕ}
-      → x ≡ n + extra_before (table_in bytes) from
-      → space_size (table_in bytes) ≤ length space
-      → TanksReady bytes n i x L (get_or weight i 0) s space
-  tanks-ready e room =
+    {bytes : List ℕ} {n L : ℕ} {weight : List ℕ} {s : State} {begun : List ℕ} (g : Given bytes n L weight s) (first : Cleared (table_in bytes) begun) where
+  pub runs-begun : RunsSoFar (table_in bytes) s L n 0 n begun begun
+  runs-begun =
       record {
-        table = g.table;
-        elements = g.elements;
-        leads = g.leads;
-        state = g.state;
-        used = omega (arith, next.used, g.elements);
-        kind = next.kind;
-        places = omega (arith, e, next.single);
-        weighed = weight-held g.weights i next.used;
-        room = room;
-        held = next.held;
+        few = omega arith;
+        places = omega (arith, extra-none (table_in bytes));
+        size = refl;
+        held = worked-begin _ _ _ _ first.empty;
       }
 
-  -- and the tanks counted with its own
-  pub next-tanks : {x e : ℕ} → x ≡ n + extra_before (table_in bytes) from → e ≡ (element_at bytes i).runoff - 1 → x + e ≡ n + extra_before (table_in bytes) (i + 1)
-  unfolding extra_tanks
-  next-tanks {e = e} is read =
-      let kind : (element_at bytes i).kind ≡ tanks = sym (ap (λ (y : Element). y.kind) (element-read bytes i next.used)) ∙ next.kind in
-      let own : e ≡ extra_tanks (element_at bytes i) = read ∙ rw (eq-same (element_at bytes i).kind tanks kind) in
-      omega (arith, is, next.single, extra-read bytes i next.used own)
+  module _ {from x : ℕ} {before : List ℕ} (h : RunsSoFar (table_in bytes) s L n from x begun before) where
+    -- a run ended at element i, one of tanks
+    module _ {i : ℕ} {space : List ℕ} (next : TanksNext (table_in bytes) s L from i space) where
+      read : (table_in bytes).element i ≡ element_at bytes i
+      read = element-read bytes i next.used
 
-  pub next-few : {x e : ℕ} → x ≡ n + extra_before (table_in bytes) from → e ≡ (element_at bytes i).runoff - 1 → x + e ≤ most_places
-  next-few is read =
-      omega (arith, next-tanks is read, g.elements, g.table.bounds.places_most, extra-rise (table_in bytes) (i + 1) (table_in bytes).elements (omega (arith, next.used)))
+      kind : (element_at bytes i).kind ≡ tanks
+      kind = sym (ap (λ (y : Element). y.kind) read) ∙ next.kind
 
-  pub next_known : ((i ≤ 1000) × (26 * i + 36 ≤ length bytes)) × (1 ≤ (element_at bytes i).runoff)
-  next_known = (
-    element-there bytes g.table next.used,
-    omega (arith, tanks-known bytes g.table next.used (sym (ap (λ (y : Element). y.kind) (element-read bytes i next.used)) ∙ next.kind)),
-  )
+      pub next-used : i < most_elements
+      next-used = omega (arith, next.used, g.table.bounds.elements_most)
+
+      pub weight-there : i < length weight
+      weight-there = omega (arith, next.used, g.weights.room)
+
+      pub tanks-ready : length space ≡ length before → TanksReady bytes n i x L (get_or weight i 0) s space
+      tanks-ready size =
+          record {
+            table = g.table;
+            elements = g.elements;
+            leads = g.leads;
+            state = g.state;
+            used = omega (arith, next.used, g.elements);
+            kind = next.kind;
+            places = omega (arith, h.places, next.single);
+            weighed = weight-held g.weights i next.used;
+            room = omega (arith, first.room, h.size, size);
+            held = next.held;
+          }
+
+      pub next-known : ((i ≤ 1000) × (26 * i + 36 ≤ length bytes)) × (1 ≤ (element_at bytes i).runoff)
+      next-known = (element-there bytes g.table next.used, omega (arith, tanks-known bytes g.table next.used kind))
+
+      -- and the tanks counted with its own
+      module _ {e : ℕ} (more : e ≡ (element_at bytes i).runoff - 1) where
+        next-places : x + e ≡ n + extra_before (table_in bytes) (i + 1)
+        unfolding extra_tanks
+        next-places =
+            let own : e ≡ extra_tanks (element_at bytes i) = more ∙ rw (eq-same (element_at bytes i).kind tanks kind) in
+            omega (arith, h.places, next.single, extra-read bytes i next.used own)
+
+        pub next-few : x + e ≤ most_places
+        next-few =
+            omega (arith, next-places, g.elements, g.table.bounds.places_most, extra-rise (table_in bytes) (i + 1) (table_in bytes).elements (omega (arith, next.used)))
+
+        pub runs-again :
+            {v : Result Unit Refusal} {after : List ℕ}
+            → TanksDone v (table_in bytes) s L i after
+            → v ≡ (Ok tt)
+            → length space ≡ length before
+            → length after ≡ length space
+            → RunsSoFar (table_in bytes) s L n (i + 1) (x + e) begun after
+        runs-again worked a size again =
+            record {
+              few = omega (arith, next.used, g.elements);
+              places = next-places;
+              size = omega (arith, again, size, h.size);
+              held = worked.done a;
+            }

@@ -1,23 +1,21 @@
 -- The turn of one element in the code of a forecast: its figures put at lead 0, what its leads are worked out from, and what is then held, of an
 -- element that is no tanks.
-use Rattle.std.specs.Prelude.{Result, Ok, Err}
+use Rattle.std.specs.Prelude.{Result, Ok, Err, Option, Some, IsErrAnd}
+use Rattle.std.proofs.lemmas.Result.{err_from_is_err_and}
 use Prim.{Unit}
 use Prim.Native.Nat.{ℕ, suc, ◌+◌, ◌*◌, ◌≤◌, ◌<◌}
 use mathlib.Core.List.{List, [], ◌∷◌}
 use mathlib.Core.Logic.{◌≢◌}
 use mathlib.Core.Path.{◌≡◌, refl, sym, ap, subst, ◌∙◌}
-use borrow.Author.Tests.{ne_eqb}
 use native.Mathlib.Nat.{mul-le-mul_right}
 use native.Mathlib.Omega.{arith}
-use mir.Syntax.{w64}
-use mir.Val.{Fits}
-use lib.ListN.{length}
+use lib.ListN.{length, get_or}
 use Rattle.sizes.specs.Sizes.{most_leads, forecast_space}
 use Rattle.refusal.specs.Answers.{refused, answer_of}
 use Rattle.refusal.specs.declared.Refusal.{Refusal}
 use Rattle.units.specs.Units.{C, S}
 use Rattle.units.specs.Ceiling.{some_passes, under_ceiling}
-use Rattle.units.proofs.UnderLaws.{Under, refused-whole}
+use Rattle.units.proofs.UnderLaws.{Under, refused-whole, refused-part}
 use Rattle.method.specs.declared.Figures.{Figures}
 use Rattle.method.specs.Figures.{FiguresFit}
 use Rattle.elements.specs.declared.Element.{Element}
@@ -44,8 +42,10 @@ use Rattle.tank_walk.specs.Rows.{IsLast, own_row}
 use Rattle.lead_walk.specs.Worked.{LeadsReady, ElementWorked}
 use Rattle.tank_walk.proofs.ForecastLaws.{Ready, ready-one, ready-small, last_under, forecast-again}
 use Rattle.element_weights.specs.Weights.{element_weight}
+use Rattle.element_weights.proofs.WeightsLaws.{weight-held}
+use Rattle.elements.specs.declared.Kind.{Kind}
 use Rattle.network_leads.specs.Inputs.{lead_input}
-use Rattle.network_leads.specs.Worked.{Given, spare_rows, space_size, LeadsSoFar}
+use Rattle.network_leads.specs.Worked.{Given, spare_rows, space_size, LeadsSoFar, LeadsPass, RunReady, RunWorked}
 use Rattle.network_leads.proofs.InputLaws.{figures-fit, input-in-range, input-of}
 use Rattle.network_leads.proofs.WorkLaws.{space-most, all_room, places-apart, worked-first, first-stays}
 use Rattle.elements.proofs.KindLaws.{ne-same}
@@ -53,13 +53,6 @@ use Rattle.elements.proofs.KindLaws.{ne-same}
 pub first-is : (t : TableValues) (s : State) (i : ℕ) (f : Figures) → i < t.elements → f ≡ figures_of s i → f ≡ lead_figures t s 0 (last_cell t i)
 unfolding lead_figures
 first-is t s i f l e = e ∙ ap (figures_of s) (sym (last-place t i l))
-
--- a place, and the next, as the code counts them
-pub place-fits : (p : ℕ) → p ≤ forecast_space → Fits w64 p
-place-fits p l = omega arith
-
-pub next_fits : (p : ℕ) → p ≤ forecast_space → Fits w64 (p + 1)
-next_fits p l = omega arith
 
 -- 16 of the whole, where it cannot be under the ceiling
 pub passes : (t : TableValues) (s : State) (leads : ℕ) → (Under (lead_numbers t s leads) → ⊥) → refused 16 ≡ under_ceiling {A = Unit} (lead_numbers t s leads) tt
@@ -179,10 +172,10 @@ module _ {bytes : List ℕ} {n L : ℕ} {weight : List ℕ} {s : State} (g : Giv
           subst (λ (x : ElementInput). InputOf (cells t) (lead_own t s) no_observation (lead_figures t s) w 1 (IsLast t) (own_row t) x (last_cell t i) L)
           (sym h.made) (input-of bytes s i used h.single _ count L w h.weighed.0 h.few)
 
-      -- 16 at this element
-      pub turn-refused : {j : Refusal} → v ≡ Err j → refused 16 ≡ under_ceiling {A = Unit} (lead_numbers t s L) tt
+      -- a number passes at this element
+      pub turn-refused : {j : Refusal} → v ≡ Err j → LeadsPass j t s L
       turn-refused e =
-          refused-whole tt _ (lead_numbers t s L) (last_under t s L i used bounds.later bounds.down c of f is ready)
+          refused-part tt _ (lead_numbers t s L) (last_under t s L i used bounds.later bounds.down c of f is ready)
           (sym (ap answer_of e) ∙ worked.verdict)
 
       pub turn-again : v ≡ (Ok tt) → LeadsSoFar t s L (i + 1) (i + 1) after
@@ -191,3 +184,84 @@ module _ {bytes : List ℕ} {n L : ℕ} {weight : List ℕ} {s : State} (g : Giv
             walked = forecast-again t s L i used bounds.later bounds.down c of f is ready (worked.done e);
             first = λ k l. first-stays t s L i (t.element i).down (worked.done e) k ∙ held.first k l;
           }
+
+-- ---- a run
+
+-- what its loop holds: the elements from one on to another are worked out, none of them tanks
+pub record RunSoFar (t : TableValues) (s : State) (L from i : ℕ) (begun space : List ℕ) : Type 0 where
+  pub later : from ≤ i
+  pub few : i ≤ t.elements
+  pub single : extra_before t i ≡ extra_before t from
+  pub size : length space ≡ length begun
+  pub held : LeadsSoFar t s L i i space
+
+module _ {bytes : List ℕ} {n L : ℕ} {weight : List ℕ} {s : State} {from i : ℕ} {begun before : List ℕ}
+    (g : Given bytes n L weight s) (r : RunReady (table_in bytes) s L from begun) (h : RunSoFar (table_in bytes) s L from i begun before) where
+  abbrev river : TableValues
+  river = table_in bytes
+
+  module _ (left : i < n) where
+    here : i < river.elements
+    here = omega (arith, left, g.elements)
+
+    -- the next is one of tanks
+    pub run-tanks : {kind : Option Kind} → kind ≡ (element_at bytes i).kind → kind ≡ tanks → RunWorked (Ok (Some i)) river s L from before
+    unfolding RunWorked
+    run-tanks is k =
+        record {
+          later = h.later;
+          used = here;
+          kind = ap (λ (e : Element). e.kind) (element-read bytes i here) ∙ (sym is ∙ k);
+          single = h.single;
+          held = h.held;
+        }
+
+    -- what is known at its turn, where it is none
+    pub run-turn :
+        {kind : Option Kind} {f : Figures} {space : List ℕ} {count : ℕ} {c : ElementInput}
+        → kind ≡ (element_at bytes i).kind
+        → kind ≢ tanks
+        → f ≡ figures_of s i
+        → space ≡ put before ((i + 1) * (L + 1)) f
+        → count ≡ rain_count (steps_of s)
+        → c ≡ lead_input (element_at bytes i) (get_or weight i 0) count s i
+        → Turn g i before f space (get_or weight i 0) count c
+    run-turn is single first placed few made =
+        record {
+          used = here;
+          single = λ e. single (is ∙ e);
+          room = omega (arith, r.room, h.size);
+          worked = h.held;
+          first = first;
+          placed = placed;
+          weighed = weight-held g.weights i here;
+          few = few;
+          made = made;
+        }
+
+  -- some number passes, and its refusal is passed on
+  pub run-passed :
+      (space : List ℕ) (v : Result (Option ℕ) Refusal) (k : Refusal)
+      → LeadsPass k river s L
+      → IsErrAnd v (λ (e : Refusal). e ≡ k)
+      → RunWorked v river s L from space
+  unfolding RunWorked
+  run-passed space v k above passed = let q = err_from_is_err_and v passed in rw (q.1, q.2) above
+
+  -- the next turn
+  pub run-again :
+      {f : Figures} {space after : List ℕ} {H count : ℕ} {c : ElementInput} {v : Result Unit Refusal}
+      (turn : Turn g i before f space H count c)
+      → ElementWorked v c f ((i + 1) * (L + 1) + 1) (c.element.down * (L + 1) + 1) L space after
+      → v ≡ (Ok tt)
+      → length after ≡ length space
+      → RunSoFar river s L from (i + 1) begun after
+  run-again {space = space} turn done e size =
+      let kept : length space ≡ length before = rw turn.placed (put-length before ((i + 1) * (L + 1)) _) in
+      record {
+        later = omega (arith, h.later);
+        few = omega (arith, turn.used);
+        single = no_more g turn ∙ h.single;
+        size = omega (arith, size, kept, h.size);
+        held = turn-again g turn _ _ done e;
+      }

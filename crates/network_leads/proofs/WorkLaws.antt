@@ -1,6 +1,6 @@
 -- The walk of a forecast: what its space holds after each element, with the state's figures at lead 0.
 use Rattle.refusal.specs.declared.Refusal.{Refusal}
-use Rattle.std.specs.Prelude.{Result, Ok, Err}
+use Rattle.std.specs.Prelude.{Result, Ok, Option, Some, None}
 use Prim.{Unit}
 use Prim.Native.Nat.{ℕ, zero, suc, ◌+◌, ◌*◌, ◌≤◌, ◌<◌}
 use mathlib.Core.List.{List}
@@ -10,10 +10,8 @@ use native.Mathlib.Nat.{mul-le-mul, mul-le-mul_right, add-zero, eq-or-lt_of_le}
 use native.Mathlib.Omega.{arith}
 use lib.ListN.{length}
 use Rattle.sizes.specs.Sizes.{most_elements, most_leads, forecast_space}
-use Rattle.refusal.specs.Answers.{refused, answer_of}
-use Rattle.refusal.specs.declared.Refusal.TheVariants.{AboveCeiling}
+use Rattle.refusal.specs.Answers.{answer_of}
 use Rattle.refusal.proofs.RuleLaws.{not-both}
-use Rattle.units.specs.Ceiling.{under_ceiling}
 use Rattle.units.proofs.UnderLaws.{Under, under-accepted}
 use Rattle.method.specs.declared.Figures.{Figures}
 use Rattle.elements.specs.Kinds.{extra_tanks}
@@ -36,7 +34,7 @@ use Rattle.tank_walk.specs.Tanks.{TanksWorked, done, more, TanksOpened}
 use Rattle.tank_walk.specs.Tanks as tank-specs
 use Rattle.tank_walk.proofs.RowLaws.{tank-place}
 use Rattle.tank_walk.proofs.ForecastLaws.{forecast-begin, forecast-at, forecast-whole}
-use Rattle.network_leads.specs.Worked.{LeadsSoFar, LeadsWorked}
+use Rattle.network_leads.specs.Worked.{LeadsSoFar, TanksNext, RunWorked, LeadsWorked}
 
 -- ---- places of w = leads + 1 leads an element
 
@@ -141,6 +139,17 @@ module _ (t : TableValues) (s : State) (leads : ℕ) where
   first-stays i d g k =
       g.others ((k + 1) * w) (λ l m e. lead-apart (i + 1) (k + 1) l m (sym e)) (λ l m e. lead-apart d (k + 1) l m (sym e))
 
+  -- ---- what a run answers
+
+  module _ (from : ℕ) (space : List ℕ) where
+    pub run-end : {end : Option ℕ} → RunWorked (Ok end) t s leads from space → end ≡ None → LeadsSoFar t s leads t.elements t.elements space
+    unfolding RunWorked
+    run-end worked e = rw e at worked
+
+    pub run-next : {end : Option ℕ} {i : ℕ} → RunWorked (Ok end) t s leads from space → end ≡ Some i → TanksNext t s leads from i space
+    unfolding RunWorked
+    run-next worked e = rw e at worked
+
   -- ---- all elements
 
   figures-stand :
@@ -169,12 +178,4 @@ module _ (t : TableValues) (s : State) (leads : ℕ) where
                     subst (λ (n : ℕ). figures_at space ((k + 1) * (n + 1) + lead) ≡ lead_figures t s lead (last_cell t k)) all
                     (figures-stand space h k lead l (omega (arith, all)));
               };
-        }
-
-    -- some number passes
-    pub worked-refused : (space : List ℕ) → refused 16 ≡ under_ceiling {A = Unit} (lead_numbers t s leads) tt → LeadsWorked (Err AboveCeiling) space t s
-    worked-refused space passes =
-        record {
-          verdict = rw all at passes;
-          held = λ a. absurd (not-both (ap answer_of a) refl);
         }

@@ -34,6 +34,7 @@ fn input_of(element: Element, weight: u64, own: u64) -> ElementInput
 
 // The same of element i, counted from 0, of this kind, of whose last rains there are `count`: only a basin's are read. A dam goes on letting
 // out the discharge that the state holds. (Its weight is read in the arms, where it takes the fewest instructions.)
+#[tactic(auto, unfolding(crate::specs::Inputs::lead_input, crate::specs::Inputs::own_number, elements::specs::Kinds::by_kind))]
 fn lead_input(
     table: &[u8],
     i: usize,
@@ -67,6 +68,7 @@ fn lead_input(
 // The elements from one on, each through all leads by its weight, up to the next element of tanks, which it answers; none
 // where all are worked out; 16 where a number passes the ceiling. (These are worked out apart, so that the
 // loop has no more calls.)
+#[tactic(auto, unfolding(crate::specs::Worked::RunWorked))]
 fn work_run(
     table: &[u8],
     n: usize,
@@ -127,20 +129,12 @@ fn work_tanks(
     let extra = extra_at(table, i);
     open_tanks(noise, weight, extra, x, places, state, &mut *space)?;
     let below = down_at(table, i) * width + 1;
-    store_tank(
-        noise,
-        weight,
-        None,
-        last,
-        own + 1,
-        below,
-        leads,
-        space,
-    )
+    store_tank(noise, weight, None, last, own + 1, below, leads, space)
 }
 
 // All n elements, each through all leads by its weight, in a space that has room for them and nothing in it: element number k at lead l at place
 // k * (leads + 1) + l. Runs of elements that are no tanks, and between them those of tanks. 16 where a number passes the ceiling.
+#[tactic(auto, unfolding(crate::specs::Worked::RunWorked))]
 pub fn work_leads(
     table: &[u8],
     n: usize,
