@@ -32,7 +32,7 @@ module _ (bytes : List ℕ) where
     table-long long =
         record {
           same = rw (le-leb 4 (length bytes) h, lt-ltb table_bytes (number32 bytes 0 + 4) (omega arith));
-          few = λ f. absurd (let z : ◌≡◌ {A = ℕ} 0 1 = cc in omega arith);
+          few = λ f. cc;
         }
 
     pub table-told : n + 4 ≤ table_bytes → Tells (leb (n + 4) (length bytes)) (table_held bytes) false bytes
@@ -49,7 +49,7 @@ module _ (bytes : List ℕ) where
   module _ (judged over : Bool) where
     pub over-told : over ≡ true → Tells false (lacking judged over bytes) true bytes
     unfolding lacking
-    over-told e = record { same = rw e; few = λ f. absurd (let z : ◌≡◌ {A = ℕ} 0 1 = cc in omega arith) }
+    over-told e = record { same = rw e; few = λ f. cc }
 
     pub lacking-told :
         {t held : Bool}

@@ -36,12 +36,7 @@ pub fn record_length(rest: &[u8]) -> usize
     ensures { RecordEnd rest.now result }
 {
     let counted = read16(rest, 0) + 2;
-    let left = rest.len();
-    if counted as usize <= left {
-        counted as usize
-    } else {
-        left
-    }
+    rest.len().min(counted as usize)
 }
 
 // Whether more input is needed before the table or the next record can be answered.
