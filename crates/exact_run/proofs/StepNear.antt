@@ -2,7 +2,6 @@
 use Rattle.rating.specs.declared.RatedReading.{RatedReading}
 use Rattle.std.specs.Prelude.{Option}
 use Prim.Native.Nat.{ℕ, ◌≤◌, ◌<◌}
-use native.Mathlib.Omega.{arith}
 use Rattle.weighting.specs.Weight.{weight}
 use Rattle.method.specs.declared.Figures.{Figures}
 use Rattle.method.specs.Inflow.{no_inflow, joined_inflow}
@@ -69,8 +68,8 @@ step-near t own o old own* o* old* b hown ho hold =
         let lag = (b.element i l).lag in
         let H = weight t.step e.lag in
         kind-both Follows e.kind
-        (λ k. rw (by-basin e.kind H H 0 0 k) (stored-follows t.step e b.step_least (lag (λ d. omega (arith, k, d))) (ho i l) (hown i l) (hold i l)))
-        (λ k. rw (by-reach e.kind H H 0 0 k) (stored-follows t.step e b.step_least (lag (λ d. omega (arith, k, d))) (ho i l) (reach-inflow-near g) (hold i l)))
+        (λ k. rw (by-basin e.kind H H 0 0 k) (stored-follows t.step e b.step_least (lag (λ d. cc)) (ho i l) (hown i l) (hold i l)))
+        (λ k. rw (by-reach e.kind H H 0 0 k) (stored-follows t.step e b.step_least (lag (λ d. cc)) (ho i l) (reach-inflow-near g) (hold i l)))
         (λ _. hown i l) (λ _ _ _. no-inflow-near)
 
     out :

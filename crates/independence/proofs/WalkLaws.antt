@@ -46,7 +46,7 @@ module _ (t : TableValues) (from : ℕ) where
               at =
                   λ r.
                   kind-both (λ (a b : Figures). a ≡ b) (t.element i).kind (λ _. rw (same-own i l, same_seen i l r))
-                  (λ k. rw (same_seen i l r, g.at i refl (λ d. omega (arith, k, d)) r)) (λ _. same-own i l) (λ _ _ _. refl);
+                  (λ k. rw (same_seen i l r, g.at i refl (λ d. cc) r)) (λ _. same-own i l) (λ _ _ _. refl);
             }
 
         out :
