@@ -1,16 +1,16 @@
 -- The loops of a step: what they hold after i elements, one element more, and the end.
 use Rattle.rating.specs.declared.RatedReading.{RatedReading}
-use Rattle.std.specs.Prelude.{Result, Ok, Err, Option, None}
+use Rattle.std.specs.Prelude.{Result, Ok, Err, Option, Some, None, IsErrAnd}
+use Rattle.std.proofs.lemmas.Result.{err_from_is_err_and}
 use Prim.{Unit}
 use Prim.Native.Nat.{ℕ, suc, ◌+◌, ◌-◌, ◌*◌, ◌≤◌, ◌<◌}
-use mathlib.Core.Bool.{Bool, true, false, true≢false, cond}
+use mathlib.Core.Bool.{Bool, true, false, cond}
 use mathlib.Core.List.{List}
 use mathlib.Core.Logic.{◌≢◌, inl, inr, ⊎_elim}
 use mathlib.Core.Path.{◌≡◌, refl, sym, ap, subst, ◌∙◌}
-use borrow.Author.Tests.{eq-eqb, ne_eqb}
 use native.Mathlib.Nat.{zero-mul}
 use native.Mathlib.Omega.{arith}
-use lib.ListN.{length, replicate, length-replicate}
+use lib.ListN.{length, get_or, replicate, length-replicate}
 use Rattle.sizes.specs.Sizes.{most_places, most_gauges}
 use Rattle.refusal.specs.Answers.{Answer, accepted, refused, answer_of}
 use Rattle.refusal.specs.declared.Refusal.{Refusal}
@@ -39,7 +39,7 @@ use Rattle.table.proofs.CountLaws.{count_none, count-more, basins-most, dams-mos
 use Rattle.record.specs.Rules.{record_rules}
 use Rattle.record.specs.Decoded.{ObservationFits}
 use Rattle.record.specs.GaugeOrder.{gauge_here}
-use Rattle.record.proofs.RecordLaws.{rain-there, release-there, rain-read, release-read, inputs-fit}
+use Rattle.record.proofs.RecordLaws.{kind-read, rain-there, release-there, rain-read, release-read, inputs-fit}
 use Rattle.record.proofs.CellInputs.{last-input, inner-input}
 use Rattle.record.proofs.GaugeOrderLaws.{gauges-none, gauges-more, gauges-most}
 use Rattle.state.specs.States.{State, figures_of}
@@ -50,23 +50,26 @@ use Rattle.walk.specs.Space.{Later}
 use Rattle.network.specs.Step.{weight_of, new_figures, network_numbers, step_own, observed_in, step_figures, step_numbers}
 use Rattle.element_weights.specs.Weights.{element_weight}
 use Rattle.element_weights.proofs.WeightsLaws.{tank-weight}
-use Rattle.answer_space.specs.Places.{figures_at, added, most_sum_before, FiguresBelow}
+use Rattle.answer_space.specs.Places.{figures_at, added, most_sum, most_sum_before, FiguresBelow}
 use Rattle.answer_space.proofs.PlacesLaws.{below-most}
 use Rattle.answer_space.proofs.EmptyLaws.{zeros-empty, none-at}
 use Rattle.one_lead.specs.declared.ElementInput.{ElementInput}
 use Rattle.one_lead.specs.Leads.{own_at_lead}
-use Rattle.one_lead.specs.Worked.{step_lead, LeadReady, tank_input}
+use Rattle.one_lead.specs.Worked.{step_lead, LeadReady, LeadWorked, tank_input}
+use Rattle.one_lead.proofs.LeadLaws.{new-ready}
 use Rattle.lead_walk.specs.Worked.{TankReady, LeadsDone, ElementWorked}
 use Rattle.lead_walk.proofs.NetworkLaws.{walked-begin, walked_at}
+use Rattle.lead_walk.proofs.LeadsLaws.{work-step-refused, work-step-done}
 use Rattle.tank_walk.specs.declared.TankPlaces.{TankPlaces}
 use Rattle.tank_walk.specs.Rows.{resting, EveryCell, cell_row}
 use Rattle.tank_walk.specs.Tanks.{TanksOpened}
 use Rattle.tank_walk.specs.Tanks as of-tanks
 use Rattle.tank_walk.proofs.RowLaws.{tank-in}
+use Rattle.tank_walk.proofs.TankLaws.{tanks-16}
 use Rattle.tank_walk.proofs.StepRows.{step_places, extra-is, extra-some, step-tanks-ready, StepInputOf, ReadyAt, ready-one, ready-tanks, tanks-pass, ready-small, element-turn, element-part}
 use Rattle.network_step.specs.declared.Passed.{Passed}
 use Rattle.network_step.specs.declared.StepInput.{StepInput}
-use Rattle.network_step.specs.Inputs.{input_of, own_number, passed_by, step_input}
+use Rattle.network_step.specs.Inputs.{input_of, own_number, passed_by, step_input, StepInputReady}
 use Rattle.network_step.specs.declared.Reached.{Reached}
 use Rattle.elements.specs.declared.Kind.{Kind}
 use Rattle.network_step.specs.Held.{
@@ -78,6 +81,7 @@ use Rattle.network_step.specs.Held.{
   StepPasses,
   PassedBefore,
   ReachedIn,
+  RunEnded,
   TanksMet,
   ElementStepped,
   past_tanks,
@@ -104,22 +108,6 @@ own_same e rain release lead l =
     (λ k. rw (by-dam e.kind (mean_rain_inflow rain 1 e.area e.runoff) 0 release 0 k, by-dam e.kind 0 0 release 0 k))
     (λ _ _ _. refl)
 
--- what the code makes of element i, of whatever kind: its own number, and the counts
-module _ (table bytes : List ℕ) (i weight b : ℕ) (passed : Passed) (o : Option RatedReading) where
-  pub input-made :
-      {e : Element} {own basins dams : ℕ} {x : ElementInput} {r : StepInput} {kind : Option Kind}
-      → kind ≡ (element_at table i).kind
-      → e ≡ element_at table i
-      → own ≡ own_number (element_at table i) bytes b passed
-      → x ≡ input_of e weight own o
-      → r ≡ record { input = x; passed = record { basins = basins; dams = dams } }
-      → basins ≡ passed.basins + basin_of kind
-      → dams ≡ passed.dams + dam_of kind
-      → r ≡ step_input table i weight bytes b passed o
-  unfolding step_input passed_by
-  input-made k is n x r c d = r ∙ rw (x, n, is, c, d, k)
-
--- the basins and dams that a step has come past
 module _ (t : TableValues) where
   pub passed_none : PassedBefore t 0 (record { basins = 0; dams = 0 })
   passed_none = record { basins = count_none basin_of t; dams = count_none dam_of t }
@@ -254,8 +242,8 @@ module _ (table bytes : List ℕ) (s : State) where
       place_is : (p : ℕ) → p * 1 + 0 + 0 ≡ p
       place_is p = omega arith
 
-  pub step-refused : {k : Refusal} {space : List ℕ} → StepPasses t bytes s k → StepWorked (Err k) space t bytes s
-  step-refused h = record { decided = h; held = λ a. cc }
+  pub step-refused : (r : Result Unit Refusal) (k : Refusal) (space : List ℕ) → IsErrAnd r (λ (e : Refusal). e ≡ k) → StepPasses t bytes s k → StepWorked r space t bytes s
+  step-refused r k space p h = let e = err_from_is_err_and r p in rw (e.1, e.2) (record { decided = h; held = λ a. cc })
 
   -- ---- what the record brings an element
 
@@ -520,8 +508,9 @@ module _ (table bytes : List ℕ) (s : State) where
           opened-last a = ready-tanks t own o old by-again i l to there some above_of by-none h opened a
 
           pub opened-passes : {k : Refusal} → r ≡ Err k → StepPasses t bytes s k
-          opened-passes e =
-              passes (step_numbers t (input_at (cells t) bytes) s)
+          opened-passes {k} e =
+              ap refused (tanks-16 opened.worked e)
+              ∙ passes (step_numbers t (input_at (cells t) bytes) s)
               (λ u. tanks-pass t own o old by-again i l to there some above_of by-none h opened e (all_under u))
 
           module _
@@ -570,6 +559,83 @@ module _ (table bytes : List ℕ) (s : State) where
                   done = λ b. last-turned (opened-last a) (last-of observed) is down (q.done b);
                   passes = λ k e. last-passes (opened-last a) (last-of observed) is e q;
                 }
+
+-- ---- the turn of an element that is one cell
+
+-- what is known at it of the run, of the element and of what its gauge observed
+pub record OneTurn
+    (table bytes : List ℕ) (s : State) (weight : List ℕ) (basins i : ℕ) (passed : Passed) (ob : Option RatedReading) (space : List ℕ)
+    : Type 0 where
+  pub accepts : AcceptedTable table
+  pub state : StateBounds (table_in table) s
+  pub kept : record_rules {A = Unit} (table_in table) bytes (accepted tt) ≡ accepted tt
+  pub counted : basins ≡ basin_count (table_in table)
+  pub used : i < (table_in table).elements
+  pub single : (element_at table i).kind ≢ tanks
+  pub come_past : PassedBefore (table_in table) i passed
+  pub seen : ob ≡ input_observation (table_in table) bytes i (table_in table).gauges
+  pub weighed : (get_or weight i 0 ≡ element_weight (table_in table) i) × (get_or weight i 0 ≤ S)
+  pub walked : Stepping (table_in table) bytes s i space
+  pub room : 4 * (place_count (table_in table) + 1) ≤ length space
+
+module _ {table bytes weight space : List ℕ} {s : State} {basins i : ℕ} {passed : Passed} {ob : Option RatedReading} (k : OneTurn table bytes s weight basins i passed ob space) where
+  pub outflow-ready : OldReady table i s space
+  outflow-ready = old-outflow-ready table bytes s k.accepts k.state i k.used k.single k.walked k.room
+
+  pub input-ready : StepInputReady table i bytes basins passed
+  input-ready =
+      let e = element-bounds table k.accepts k.used in
+      record {
+        there = element-there table k.accepts k.used;
+        rain = rain-room table bytes s k.accepts k.kept i k.used k.come_past.basins;
+        rain_most = rain-most table bytes s k.accepts k.kept i k.used k.come_past.basins;
+        release = release-room table bytes s k.accepts k.kept i k.used k.counted k.come_past.dams;
+        few = passed-few _ i k.come_past;
+        area = e.area;
+        runoff = e.runoff;
+      }
+
+  -- it is worked out of this, after its old outflow was added
+  module _ {r : StepInput} (is : r ≡ step_input table i (get_or weight i 0) bytes basins passed ob) {before : Figures} (b : before ≡ figures_of s i) where
+    element-is : r.input.element ≡ element_at table i
+    unfolding step_input input_of
+    element-is = ap (λ (x : StepInput). x.input.element) is
+
+    lead_zero : r.input.first_lead ≡ 0
+    unfolding step_input input_of
+    lead_zero = ap (λ (x : StepInput). x.input.first_lead) is
+
+    -- it is ready to be worked out, from its old figures on
+    one_ready : LeadReady most_sum_before r.input (step_lead (i + 1) r.input.element.down) before space
+    one_ready =
+        step-ready table bytes s k.accepts k.state i k.used k.single k.weighed.0 k.counted k.come_past k.seen k.kept k.weighed.1
+        (ap (λ (x : StepInput). x.input) is) b k.walked k.room
+
+    module _ {middle : List ℕ} (a : middle ≡ added space (element_at table i).down (old_outflow (figures_of s i))) where
+      summed : middle ≡ added space r.input.element.down (old_outflow before)
+      summed = old-added _ _ _ _ element-is b a
+
+      pub work-ready : LeadReady most_sum r.input (step_lead (i + 1) r.input.element.down) before middle
+      work-ready = new-ready _ _ _ _ one_ready _ refl _ summed
+
+      module _
+          {w : Result Figures Refusal} {after : List ℕ}
+          (worked : LeadWorked (λ x. x) w r.input (step_lead (i + 1) r.input.element.down) before middle after) where
+        pub one-refused : {j : Refusal} → w ≡ Err j → StepPasses (table_in table) bytes s j
+        one-refused {j} e =
+            stepping-refused table bytes s k.accepts k.state i k.used k.single k.weighed.0 k.counted k.come_past k.seen
+            (ap (λ (x : StepInput). x.input) is) b k.walked
+            (work-step-refused _ _ _ _ _ _ _ lead_zero one_ready summed _ worked {s = Err j} e refl)
+
+        pub one-more : {x : Figures} → w ≡ Ok x → Stepping (table_in table) bytes s (i + 1) after
+        one-more e =
+            stepping-again table bytes s k.accepts k.state i k.used k.single k.weighed.0 k.counted k.come_past k.seen
+            (ap (λ (x : StepInput). x.input) is) b k.walked (ap (λ (x : Element). x.down) element-is)
+            (work-step-done _ _ _ _ _ _ _ lead_zero one_ready summed _ worked e)
+
+        pub passed-on : PassedBefore (table_in table) (i + 1) r.passed
+        unfolding step_input
+        passed-on = passed-more _ i k.come_past (kind-read _ _ k.used refl) (ap (λ (x : StepInput). x.passed) is)
 
 -- ---- how far a step has come
 
@@ -632,6 +698,42 @@ module _ (t : TableValues) (bytes : List ℕ) (s : State) where
       → ReachedIn t bytes s (record { element = i; tank = tank; passed = passed; gauges = gauges }) space
       → TanksMet t bytes s from met space
   met-tanks e used later kind h = rw e (record { used = used; later = later; kind = kind; reached = h })
+
+  -- a run ends before an element of tanks, or after the last
+  pub run-met :
+      {r : Result (Option Reached) Refusal} {run : Option Reached} {from met : Reached} {space : List ℕ}
+      → r ≡ Ok run
+      → run ≡ Some met
+      → RunEnded r t bytes s from space
+      → TanksMet t bytes s from met space
+  unfolding RunEnded
+  run-met e f h = rw (e, f) at h
+
+  pub run-done :
+      (from : Reached) {r : Result (Option Reached) Refusal} {run : Option Reached} {space : List ℕ}
+      → r ≡ Ok run
+      → run ≡ None
+      → RunEnded r t bytes s from space
+      → Stepping t bytes s t.elements space
+  unfolding RunEnded
+  run-done from e f h = rw (e, f) at h
+
+  pub run-passed : (from : Reached) (space : List ℕ) {r : Result (Option Reached) Refusal} {k : Refusal} → r ≡ Err k → RunEnded r t bytes s from space → StepPasses t bytes s k
+  unfolding RunEnded
+  run-passed from space e h = rw e at h
+
+  -- a run ends with a refusal that is passed on
+  pub run-refused : (r : Result (Option Reached) Refusal) (k : Refusal) (from : Reached) (space : List ℕ) → IsErrAnd r (λ (e : Refusal). e ≡ k) → StepPasses t bytes s k → RunEnded r t bytes s from space
+  unfolding RunEnded
+  run-refused r k from space p h = let e = err_from_is_err_and r p in rw (e.1, e.2) h
+
+  pub tanks-refused : (r : Result Unit Refusal) (k : Refusal) (i : ℕ) (space : List ℕ) → IsErrAnd r (λ (e : Refusal). e ≡ k) → StepPasses t bytes s k → ElementStepped r t bytes s i space
+  tanks-refused r k i space p h =
+      let e = err_from_is_err_and r p in
+      rw (e.1, e.2) (record { done = λ a. cc; passes = λ k q. subst (λ (x : Refusal). StepPasses t bytes s x) (one-refusal q) h })
+    where
+      one-refusal : {j k : Refusal} → ◌≡◌ {A = Result Unit Refusal} (Err j) (Err k) → j ≡ k
+      one-refusal q = cc
 
   -- and done
   pub past-reached :

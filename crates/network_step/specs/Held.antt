@@ -1,9 +1,9 @@
 -- Serves the code: what the code of a step relies on, holds and has worked out.
 use Prim.{Unit}
-use Rattle.std.specs.Prelude.{ℕ, zero, suc, ◌+◌, ◌*◌, ◌≤◌, ◌<◌, Bool, true, false, List, ◌≡◌, length, Result, Ok, Err, Option, Some, None}
+use Rattle.std.specs.Prelude.{ℕ, zero, suc, ◌+◌, ◌*◌, ◌≤◌, ◌<◌, List, ◌≡◌, length, Result, Ok, Err, Option, Some, None}
 use Rattle.sizes.specs.Sizes.{most_elements, most_places, most_gauges}
 use Rattle.refusal.specs.Refusals.{number}
-use Rattle.refusal.specs.Answers.{accepted, answer_of}
+use Rattle.refusal.specs.Answers.{accepted, refused, answer_of}
 use Rattle.refusal.specs.declared.Refusal.{Refusal}
 use Rattle.units.specs.Ceiling.{under_ceiling}
 use Rattle.method.specs.declared.Figures.{Figures}

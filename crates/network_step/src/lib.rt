@@ -21,7 +21,7 @@ use record::{rain_at, release_at};
 use refusal::Refusal;
 use sizes::STATE_NUMBERS;
 use state::figures_of;
-use tank_walk::{TankPlaces, open_tanks};
+use tank_walk::{TankPlaces, is_tanks, open_tanks};
 
 // What a step works an element out of: its weight, its own number, lead 0, and what its gauge observed.
 #[tactic(auto, unfolding(crate::specs::Inputs::input_of))]
@@ -159,7 +159,7 @@ fn work_run(
     for i in first..n {
         let here = gauge_here(table, n, m, g, i);
         let observation = observation_here(observed, here, g);
-        if let Some(Kind::Tanks) = kind_at(table, i) {
+        if is_tanks(table, i) {
             return Ok(Some(Reached {
                 element: i,
                 tank: from.tank,

@@ -6,8 +6,8 @@ use Rattle.table.specs.InUse.{table_in}
 use Rattle.network_step.specs.Held.{ReachedIn}
 use Rattle.network_step.proofs.work_step.Given as goal
 
-abbrev pub invariant-loop-met : goal.invariant-loop-met
-invariant-loop-met l = (length l.space ≡ length l.initial.space) × ReachedIn (table_in l.table) l.bytes l.state l.from l.space
+abbrev pub invariant-loop-run : goal.invariant-loop-run
+invariant-loop-run l = (length l.space ≡ length l.initial.space) × ReachedIn (table_in l.table) l.bytes l.state l.from l.space
 
-abbrev pub decreases-loop-met : goal.decreases-loop-met
-decreases-loop-met l = l.n - l.from.element
+abbrev pub decreases-loop-run : goal.decreases-loop-run
+decreases-loop-run l = l.n - l.from.element
