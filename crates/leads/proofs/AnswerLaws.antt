@@ -1,13 +1,14 @@
 -- The answer of a forecast: the leads that were worked out, and rules 15 and 16.
 use Prim.{Unit}
-use Rattle.std.specs.Prelude.{Result, Ok, Err}
+use Rattle.std.specs.Prelude.{Result, Ok, Err, IsErrAnd}
+use Rattle.std.proofs.lemmas.Result.{err_from_is_err_and}
 use Prim.Native.Nat.{ℕ, ◌+◌, ◌*◌, ◌-◌, ◌≤◌, ◌<◌, min}
-use mathlib.Core.Bool.{Bool, true, false}
+use mathlib.Core.Bool.{true}
 use mathlib.Core.List.{List, ◌++◌}
-use mathlib.Core.Path.{◌≡◌, refl, sym, ap, ◌∙◌}
+use mathlib.Core.Path.{◌≡◌, sym, ap, ◌∙◌}
 use native.Mathlib.Nat.{mul-le-mul, mul-le-mul_left, mul-le-mul_right}
 use native.Mathlib.Omega.{arith}
-use lib.ListN.{length, take, drop, replicate, length-drop, length-replicate}
+use lib.ListN.{length, take, drop, length-drop}
 use lib.Seq.{paste, take_all, take-append-le, drop-append-le}
 use Rattle.sizes.specs.Sizes.{most_elements, most_leads, answer_numbers}
 use Rattle.refusal.specs.Refusals.{number}
@@ -31,10 +32,9 @@ use Rattle.network.specs.Answer.{forecast_figures, space_fits, leads_answer}
 use Rattle.network.specs.Lent.{layout, Lent}
 use Rattle.network.proofs.LayoutLaws.{layout-length, by-lead-length}
 use Rattle.network.proofs.LentLaws.{space-refused, space-accepted, ceiling-refused, written-accepted, written-refused, none-copied, all-copied}
-use Rattle.answer_space.specs.Places.{figures_at, Empty}
-use Rattle.answer_space.proofs.EmptyLaws.{zeros-empty}
+use Rattle.answer_space.specs.Places.{figures_at}
 use Rattle.network_leads.specs.Worked.{Given, spare_rows, space_size, LeadsHeld, LeadsWorked}
-use Rattle.leads.specs.Held.{answer_size, ForecastGiven, CopyReady, Copied, ForecastHeld}
+use Rattle.leads.specs.Held.{answer_size, ForecastGiven, Copied, ForecastHeld}
 use Rattle.leads.proofs.LayoutLaws.{figures-after, answer-laid}
 
 -- ---- what is given, and the numbers that a river needs
@@ -78,8 +78,8 @@ module _ {bytes : List ℕ} {n L T : ℕ} {s : State} (g : ForecastGiven bytes n
   pub answer-start : 4 * (L + 1) ≡ 4 * ((table_in bytes).leads + 1)
   answer-start = rw g.leads
 
-pub answer-most : (n l : ℕ) → n ≤ most_elements → l ≤ most_leads → 4 * n * (l + 1) ≤ answer_numbers
-answer-most n l few short =
+pub answer_most : (n l : ℕ) → n ≤ most_elements → l ≤ most_leads → 4 * n * (l + 1) ≤ answer_numbers
+answer_most n l few short =
     let next : l + 1 ≤ most_leads + 1 = omega (arith, short) in omega (arith, mul-le-mul few next)
 
 -- the space has the answer after the places of what leaves the river
@@ -87,15 +87,6 @@ space-is : (t : TableValues) → 4 * (t.leads + 1) + answer_size t ≤ space_siz
 space-is t =
     let more : t.elements + 1 ≤ t.elements + 1 + spare_rows t = omega arith in
     omega (arith, mul-le-mul_right (t.leads + 1) more)
-
--- ---- spaces with nothing in them
-
--- as the code makes it
-pub zeros-ready :
-    {bytes : List ℕ} {n L T : ℕ} {s : State} {own room lent : ℕ}
-    → CopyReady bytes n L T s own room lent
-    → CopyReady bytes n L T s (length {A = ℕ} (replicate own 0)) (length {A = ℕ} (replicate room 0)) lent × Empty (replicate room 0)
-zeros-ready {own = own} {room = room} h = (rw (length-replicate {A = ℕ} own 0, length-replicate {A = ℕ} room 0) h, zeros-empty room)
 
 -- ---- what the space holds
 
@@ -157,9 +148,12 @@ too_small t s = space-refused (answer_size t) (lead_numbers t s t.leads) (foreca
 module _
     (t : TableValues) (s : State) (out : List ℕ) (fits : answer_size t ≤ length out) {v : Result Unit Refusal} {space : List ℕ}
     (h : LeadsWorked v space t s) where
-  pub not-copied : {j : Refusal} → v ≡ Err j → Copied (Err j) t s out out
+  -- a refusal is passed on
+  pub not-copied : (answer : Result ℕ Refusal) {j : Refusal} → v ≡ Err j → IsErrAnd answer (λ (k : Refusal). k ≡ j) → Copied answer t s out out
   unfolding leads_answer space_fits
-  not-copied e = none-copied (answer_size t) (lead_numbers t s t.leads) (forecast_figures t s) out fits h.verdict e
+  not-copied answer e passed =
+      let q = err_from_is_err_and answer passed in
+      rw (q.1, q.2) (none-copied (answer_size t) (lead_numbers t s t.leads) (forecast_figures t s) out fits h.verdict e)
 
   -- all of the answer
   pub copied :
@@ -182,7 +176,7 @@ module _
     (t : TableValues) (s : State) (b : AcceptedBounds t) {v : Result Unit Refusal} (worked rest : List ℕ) (long : length worked ≡ space_size t)
     (h : LeadsWorked v worked t s) where
   fits : answer_size t ≤ answer_numbers
-  fits = answer-most _ _ b.elements_most b.leads_most
+  fits = answer_most _ _ b.elements_most b.leads_most
 
   answer-accepted : v ≡ (Ok tt) → leads_answer t s answer_numbers ≡ accepted (forecast_figures t s)
   unfolding leads_answer space_fits
@@ -212,9 +206,11 @@ module _
           ∙ take-append-le (answer_size t) (drop (4 * (t.leads + 1)) worked) rest
           (omega (arith, long, space-is t, length-drop (4 * (t.leads + 1)) worked))
 
-  pub held-refused : {j : Refusal} → v ≡ Err j → ForecastHeld (Err j) (worked ++ rest) t s
-  held-refused e =
-      record {
+  pub held-refused : (answer : Result ℕ Refusal) {j : Refusal} → v ≡ Err j → IsErrAnd answer (λ (k : Refusal). k ≡ j) → ForecastHeld answer (worked ++ rest) t s
+  held-refused answer e passed =
+      let q = err_from_is_err_and answer passed in
+      rw (q.1, q.2)
+      (record {
         count = written-refused (answer-refused e);
         numbers = λ fs a. absurd (not-both a (answer-refused e));
-      }
+      })

@@ -12,14 +12,18 @@ ghost use Rattle.network.specs.Lent.{Lent};
 ghost use Rattle.answer_space.specs.Places.{Empty};
 ghost use Rattle.leads.specs.Held.{SpaceGiven, CopyReady, Copied, ForecastHeld};
 
-use answer_space::copy_numbers;
+use answer_space::{clear, copy_numbers};
 use element_weights::put_weights;
 use network_leads::work_leads;
 use refusal::Refusal;
-use sizes::{FORECAST_SPACE, MEDIUM_FORECAST_SPACE, MOST_ELEMENTS, SMALL_FORECAST_ELEMENTS, SMALL_FORECAST_SPACE, STATE_NUMBERS, TINY_FORECAST_ELEMENTS, TINY_FORECAST_SPACE};
+use sizes::{
+    FORECAST_SPACE, MEDIUM_FORECAST_SPACE, MOST_ELEMENTS, SMALL_FORECAST_ELEMENTS,
+    SMALL_FORECAST_SPACE, STATE_NUMBERS, TINY_FORECAST_ELEMENTS, TINY_FORECAST_SPACE,
+};
 use table::Counts;
 
 // How many numbers the answer has: four for each element at lead 0 and at each lead.
+#[tactic(auto, using(crate::proofs::AnswerLaws::answer_most))]
 fn answer_numbers(elements: usize, leads: usize) -> usize
     requires { (elements ≤ most_elements) × (leads ≤ most_leads) }
     ensures { (result ≡ 4 * elements * (leads + 1)) × (result ≤ answer_numbers) }
@@ -35,6 +39,7 @@ fn spare_rows(extra: usize) -> usize
 }
 
 // How many numbers of a space are worked in: as many as the answer has, those that take what leaves the river, and rows for tanks.
+#[tactic(auto, using(network_leads::proofs::WorkLaws::space_most))]
 fn space_numbers(elements: usize, extra: usize, leads: usize) -> usize
     requires { (elements ≤ most_elements) × (leads ≤ most_leads) }
     ensures { (result ≡ 4 * (elements + 1 + min extra 7) * (leads + 1)) × (result ≤ forecast_space) }
@@ -57,7 +62,7 @@ pub fn forecast_in(
 {
     let room = space_numbers(counts.elements, counts.extra, counts.leads);
     let part = &mut space[..room];
-    part.fill(0);
+    clear(&mut *part);
     work_leads(table, counts.elements, counts.leads, weights, state, part)?;
     Ok(answer_numbers(counts.elements, counts.leads))
 }
@@ -138,10 +143,14 @@ pub fn forecast_on(
     }
     let room = space_numbers(n, counts.extra, leads);
     if room <= TINY_FORECAST_SPACE {
-        return in_space::<TINY_FORECAST_ELEMENTS, TINY_FORECAST_SPACE>(table, n, leads, step, state, out);
+        return in_space::<TINY_FORECAST_ELEMENTS, TINY_FORECAST_SPACE>(
+            table, n, leads, step, state, out,
+        );
     }
     if room <= SMALL_FORECAST_SPACE {
-        return in_space::<SMALL_FORECAST_ELEMENTS, SMALL_FORECAST_SPACE>(table, n, leads, step, state, out);
+        return in_space::<SMALL_FORECAST_ELEMENTS, SMALL_FORECAST_SPACE>(
+            table, n, leads, step, state, out,
+        );
     }
     if room <= MEDIUM_FORECAST_SPACE {
         return in_space::<MOST_ELEMENTS, MEDIUM_FORECAST_SPACE>(table, n, leads, step, state, out);

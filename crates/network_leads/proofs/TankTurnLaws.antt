@@ -48,7 +48,7 @@ use Rattle.tank_walk.proofs.ForecastLaws.{tank-first, Ready, ready-tanks, tanks-
 use Rattle.element_weights.proofs.WeightsLaws.{weight-held, tank-weight}
 use Rattle.network_leads.specs.Worked.{Given, Cleared, spare_rows, LeadsSoFar, LeadsPass, TanksReady, TanksNext, TanksDone}
 use Rattle.network_leads.proofs.InputLaws.{figures-fit, last-tank-input}
-use Rattle.network_leads.proofs.WorkLaws.{space-most, places-apart, worked-begin, worked-first, first-stays, tanks-stay}
+use Rattle.network_leads.proofs.WorkLaws.{space_most, places-apart, worked-begin, worked-first, first-stays, tanks-stay}
 use Rattle.network_leads.proofs.TurnLaws.{first-is, passes, row-there}
 use Rattle.elements.proofs.KindLaws.{eq-same}
 
@@ -95,7 +95,7 @@ module _
   row-most : (k : ℕ) → k ≤ t.elements + spare_rows t → k * w ≤ forecast_space
   row-most k l =
       let m : k ≤ t.elements + 1 + 7 = omega (arith, l) in
-      omega (arith, mul-le-mul_right w m, space-most t.elements 7 L g.table.bounds.elements_most (omega arith) few-leads)
+      omega (arith, mul-le-mul_right w m, space_most t.elements 7 L g.table.bounds.elements_most (omega arith) few-leads)
 
   pub own-most : (i + 1) * w ≤ forecast_space
   own-most = row-most (i + 1) (omega (arith, used))

@@ -47,7 +47,7 @@ use Rattle.elements.specs.declared.Kind.{Kind}
 use Rattle.network_leads.specs.Inputs.{lead_input}
 use Rattle.network_leads.specs.Worked.{Given, spare_rows, space_size, LeadsSoFar, LeadsPass, RunReady, RunWorked}
 use Rattle.network_leads.proofs.InputLaws.{figures-fit, input-in-range, input-of}
-use Rattle.network_leads.proofs.WorkLaws.{space-most, all_room, places-apart, worked-first, first-stays}
+use Rattle.network_leads.proofs.WorkLaws.{space_most, all_room, places-apart, worked-first, first-stays}
 use Rattle.elements.proofs.KindLaws.{ne-same}
 
 pub first-is : (t : TableValues) (s : State) (i : ℕ) (f : Figures) → i < t.elements → f ≡ figures_of s i → f ≡ lead_figures t s 0 (last_cell t i)
@@ -141,7 +141,7 @@ module _ {bytes : List ℕ} {n L : ℕ} {weight : List ℕ} {s : State} (g : Giv
     pub below-most : c.element.down * w ≤ forecast_space
     below-most =
         let d : c.element.down ≤ t.elements = rw down_is bounds.down in
-        omega (arith, mul-le-mul_right w d, space-most t.elements 0 L g.table.bounds.elements_most (omega arith) few-leads)
+        omega (arith, mul-le-mul_right w d, space_most t.elements 0 L g.table.bounds.elements_most (omega arith) few-leads)
 
     -- what the leads of the element are worked out from is ready
     pub turn-ready : LeadsReady c f ((i + 1) * w + 1) (c.element.down * w + 1) L space

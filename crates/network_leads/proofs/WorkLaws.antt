@@ -38,8 +38,8 @@ use Rattle.network_leads.specs.Worked.{LeadsSoFar, TanksNext, RunWorked, LeadsWo
 
 -- ---- places of w = leads + 1 leads an element
 
-pub space-most : (n x l : ℕ) → n ≤ most_elements → x ≤ 7 → l ≤ most_leads → 4 * (n + 1 + x) * (l + 1) ≤ forecast_space
-space-most n x l few spare short =
+pub space_most : (n x l : ℕ) → n ≤ most_elements → x ≤ 7 → l ≤ most_leads → 4 * (n + 1 + x) * (l + 1) ≤ forecast_space
+space_most n x l few spare short =
     let more : n + 1 + x ≤ most_elements + 8 = omega (arith, few, spare) in
     let next : l + 1 ≤ most_leads + 1 = omega (arith, short) in
     omega (arith, mul-le-mul more next)

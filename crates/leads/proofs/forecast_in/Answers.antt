@@ -1,7 +1,7 @@
 -- `forecast_in` meets its contract.
 use Prim.Native.Nat.{ℕ, ◌+◌, ◌*◌, ◌≤◌, min}
 use mathlib.Core.List.{List}
-use mathlib.Core.Path.{◌≡◌, sym, ◌∙◌}
+use mathlib.Core.Path.{◌≡◌, ◌∙◌}
 use native.Mathlib.Omega.{arith}
 use lib.ListN.{length, take}
 use lib.Seq.{length-take-le}
@@ -34,17 +34,14 @@ part-size :
     → length (take room space) ≡ space_size (table_in bytes)
 part-size g space e r most size = part-long space most size ∙ space-size g e r
 
-pub slice_bounds-part-end-2 : goal.slice_bounds-part-end-2
-slice_bounds-part-end-2 c = sym (part-long c.args.space.now c.space_numbers-room.ensures.1 c.requires.1.1)
-
 pub work_leads-requires : goal.work_leads-requires
 work_leads-requires c =
     let p = c.requires in
     let r = c.space_numbers-room.ensures in (
       with-weights (given p.0.counted p.1.0) p.0.weights,
       record {
-        room = omega (arith, c.fill.auto.space, part-size (given p.0.counted p.1.0) c.args.space.now p.0.counted.extra r.0 r.1 p.1.1);
-        empty = c.fill.ensures;
+        room = omega (arith, c.clear.auto.space, part-size (given p.0.counted p.1.0) c.args.space.now p.0.counted.extra r.0 r.1 p.1.1);
+        empty = c.clear.ensures;
       },
     )
 
@@ -53,13 +50,13 @@ returns-in_err-work_leads c =
     let p = c.requires in
     let r = c.space_numbers-room.ensures in
     held-refused _ _ p.0.counted.counted.table.bounds _ _
-    (omega (arith, c.work_leads.auto.space, c.fill.auto.space, part-size (given p.0.counted p.1.0) c.args.space.now p.0.counted.extra r.0 r.1 p.1.1))
-    c.work_leads.ensures c.in_err-work_leads.is
+    (omega (arith, c.work_leads.auto.space, c.clear.auto.space, part-size (given p.0.counted p.1.0) c.args.space.now p.0.counted.extra r.0 r.1 p.1.1))
+    c.work_leads.ensures _ c.in_err-work_leads.was c.from_residual.ensures.1
 
 pub returns : goal.returns
 returns c =
     let p = c.requires in
     let r = c.space_numbers-room.ensures in
     held-accepted _ _ p.0.counted.counted.table.bounds _ _
-    (omega (arith, c.work_leads.auto.space, c.fill.auto.space, part-size (given p.0.counted p.1.0) c.args.space.now p.0.counted.extra r.0 r.1 p.1.1))
-    c.work_leads.ensures (answer-size (given p.0.counted p.1.0) c.answer_numbers-needed.ensures.0) c.in_ok-work_leads.is
+    (omega (arith, c.work_leads.auto.space, c.clear.auto.space, part-size (given p.0.counted p.1.0) c.args.space.now p.0.counted.extra r.0 r.1 p.1.1))
+    c.work_leads.ensures (answer-size (given p.0.counted p.1.0) c.answer_numbers.ensures.0) c.in_ok-work_leads.was

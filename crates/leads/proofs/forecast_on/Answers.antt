@@ -8,8 +8,7 @@ use Rattle.table.specs.InUse.{table_in}
 use Rattle.state.specs.States.{State}
 use Rattle.network_leads.specs.Worked.{space_size}
 use Rattle.leads.specs.Held.{ForecastGiven, CopyReady}
-use Rattle.leads.proofs.AnswerLaws.{given, elements-few, answer-size, space-size, too_small, lent_by}
-use Rattle.sizes.specs.Sizes.{medium_forecast_space}
+use Rattle.leads.proofs.AnswerLaws.{given, elements-few, answer-size, space-size, too_small}
 use Rattle.leads.proofs.forecast_on.Goals as goal
 
 module _ {bytes : List ℕ} {n L T : ℕ} {s : State} (g : ForecastGiven bytes n L T s) where
@@ -36,52 +35,39 @@ module _ {bytes : List ℕ} {n L T : ℕ} {s : State} (g : ForecastGiven bytes n
           answer = omega (arith, fits, answer-size g a);
         }
 
-pub returns-then-out-needed : goal.returns-then-out-needed
-returns-then-out-needed c =
+pub returns-then-out-answer_numbers : goal.returns-then-out-answer_numbers
+returns-then-out-answer_numbers c =
     too_small _ _ _
-    (omega (arith, c.if-out-needed.true, answer-size (given c.requires.0 c.requires.1) c.answer_numbers-needed.ensures.0))
+    (omega (arith, c.if-out-answer_numbers.true, answer-size (given c.requires.0 c.requires.1) c.answer_numbers.ensures.0))
 
-pub in_tiny-requires : goal.in_tiny-requires
-in_tiny-requires c =
+pub in_space-requires : goal.in_space-requires
+in_space-requires c =
     let g = given c.requires.0 c.requires.1 in
     let r = c.space_numbers-room.ensures.0 in
-    let l = c.if-room-le-TINY_FORECAST_SPACE.true in
-    ready g c.requires.0.extra r _ _ c.answer_numbers-needed.ensures.0 c.if-out-needed.false l
-    (omega (arith, few g c.requires.0.extra r l))
+    let l = c.if-room-le-TINY_FORECAST_SPACE.true in (
+      record { own_most = omega arith; room_most = omega arith },
+      ready g c.requires.0.extra r _ _ c.answer_numbers.ensures.0 c.if-out-answer_numbers.false l (omega (arith, few g c.requires.0.extra r l)),
+    )
 
-pub returns-then-room-le-TINY_FORECAST_SPACE : goal.returns-then-room-le-TINY_FORECAST_SPACE
-returns-then-room-le-TINY_FORECAST_SPACE c =
-    lent_by _ _ c.in_tiny.result c.in_tiny.ensures
-    (answer-size (given c.requires.0 c.requires.1) c.answer_numbers-needed.ensures.0) c.counted_by.ensures
-
-pub in_small-requires : goal.in_small-requires
-in_small-requires c =
+pub in_space-requires-then-room-le-SMALL_FORECAST_SPACE : goal.in_space-requires-then-room-le-SMALL_FORECAST_SPACE
+in_space-requires-then-room-le-SMALL_FORECAST_SPACE c =
     let g = given c.requires.0 c.requires.1 in
     let r = c.space_numbers-room.ensures.0 in
-    let l = c.if-room-le-SMALL_FORECAST_SPACE.true in
-    ready g c.requires.0.extra r _ _ c.answer_numbers-needed.ensures.0 c.if-out-needed.false l
-    (omega (arith, few g c.requires.0.extra r l))
+    let l = c.if-room-le-SMALL_FORECAST_SPACE.true in (
+      record { own_most = omega arith; room_most = omega arith },
+      ready g c.requires.0.extra r _ _ c.answer_numbers.ensures.0 c.if-out-answer_numbers.false l (omega (arith, few g c.requires.0.extra r l)),
+    )
 
-pub returns-then-room-le-SMALL_FORECAST_SPACE : goal.returns-then-room-le-SMALL_FORECAST_SPACE
-returns-then-room-le-SMALL_FORECAST_SPACE c =
-    lent_by _ _ c.in_small.result c.in_small.ensures
-    (answer-size (given c.requires.0 c.requires.1) c.answer_numbers-needed.ensures.0) c.counted_by-then-room-le-SMALL_FORECAST_SPACE.ensures
-
-pub in_medium-requires : goal.in_medium-requires
-in_medium-requires c =
+pub in_space-requires-then-room-le-MEDIUM_FORECAST_SPACE : goal.in_space-requires-then-room-le-MEDIUM_FORECAST_SPACE
+in_space-requires-then-room-le-MEDIUM_FORECAST_SPACE c =
     let g = given c.requires.0 c.requires.1 in
-    let r = c.space_numbers-room.ensures.0 in
-    let l : c.space_numbers-room.result ≤ medium_forecast_space = omega arith in
-    ready g c.requires.0.extra r _ _ c.answer_numbers-needed.ensures.0 c.if-out-needed.false l
-    (omega (arith, few g c.requires.0.extra r l))
+    let l = c.if-room-le-MEDIUM_FORECAST_SPACE.true in (
+      record { own_most = omega arith; room_most = omega arith },
+      ready g c.requires.0.extra c.space_numbers-room.ensures.0 _ _ c.answer_numbers.ensures.0 c.if-out-answer_numbers.false l g.table.bounds.elements_most,
+    )
 
-pub in_large-requires : goal.in_large-requires
-in_large-requires c =
-    ready (given c.requires.0 c.requires.1) c.requires.0.extra c.space_numbers-room.ensures.0 _ _
-    c.answer_numbers-needed.ensures.0 c.if-out-needed.false c.space_numbers-room.ensures.1
-    c.requires.0.counted.table.bounds.elements_most
-
-pub returns : goal.returns
-returns c =
-    lent_by _ _ c.in_large.result c.in_large.ensures
-    (answer-size (given c.requires.0 c.requires.1) c.answer_numbers-needed.ensures.0) c.counted_by-2.ensures
+pub in_largest_space-requires : goal.in_largest_space-requires
+in_largest_space-requires c =
+    let g = given c.requires.0 c.requires.1 in
+    ready g c.requires.0.extra c.space_numbers-room.ensures.0 _ _ c.answer_numbers.ensures.0 c.if-out-answer_numbers.false
+    c.space_numbers-room.ensures.1 g.table.bounds.elements_most

@@ -1,6 +1,0 @@
--- `in_space` meets its contract.
-use Rattle.leads.proofs.AnswerLaws.{zeros-ready}
-use Rattle.leads.proofs.in_space.Goals as goal
-
-pub copy_out-requires : goal.copy_out-requires
-copy_out-requires g c = zeros-ready c.requires.1
