@@ -20,7 +20,6 @@ use Rattle.claim.specs.Claim.{none, more, outcomes}
 use Rattle.element_step.specs.ElementStep.{released, own_of, corrected_by, moved, stored, element_step, observation_numbers, move_numbers, stored_numbers, element_numbers}
 use Rattle.element_step.specs.Rains.{shifted_rains}
 use Rattle.elements.specs.Elements.{element_at}
-use Rattle.elements.specs.Kinds.{by_kind}
 use Rattle.elements.specs.Rules.{lag_fits, basin_fits, reach_fits, dam_fits, tanks_fit, kind_fits, element_fits, down_fits}
 use Rattle.entries.specs.Entries.{start_answer, step_rules, step_on_answer, step_answer, forecast_on_answer, forecast_answer}
 use Rattle.fields.specs.Ranges.{all_below}
@@ -40,7 +39,7 @@ use Rattle.rating.specs.Rating.{pieces_of, piece_for, depth, discharge_at, on_pi
 use Rattle.record.specs.Records.{version_of, gauge_bytes, rain_at, release_at, stage_at, reading_of, reading_by, reading_at, rate_answer, observation_of, accepted_observation, observation_at, at_element, rain_of, release_of, input_rain, input_release, input_observation, input_at}
 use Rattle.table.specs.KindCounts.{count_before, extra_before}
 use Rattle.cells.specs.Cells.{last_cell, element_among, element_of, tank_of, draining_into, inlet_of, last_of, cell_at, gauge_of, cells, cell_place}
-use Rattle.elements.specs.Kinds.{basin_of, dam_of, extra_tanks}
+use Rattle.elements.specs.Kinds.{kind_of, same_kind, by_kind, basin_of, dam_of, extra_tanks}
 use Rattle.record.specs.Rules.{rain_fits, release_fits, stage_fits, stages_kept, floats_kept, is_accepted, reading_fits, record_rules}
 use Rattle.record.specs.Rules as record-rules
 use Rattle.program.specs.Program.{record_bytes, rest_after, records_text, run_text, program}
@@ -67,7 +66,7 @@ use Rattle.figures.specs.TwoStorms.{rain_record, TwoStormsDiffer}
 
 -- one basin, no dam, no gauge
 twice-the-rain : MoreRain (table_in (one_basin 0)) (rain_record 100) (rain_record 200)
-unfolding table_of element_at below in_use table_in by_kind basin_of dam_of count_before rain_at
+unfolding table_of element_at below in_use table_in kind_of by_kind basin_of dam_of count_before rain_at
 twice-the-rain = record { rains = rains; releases = λ k l. absurd (omega (arith, l)); readings = λ g l. absurd (omega (arith, l)) }
   where
     rains : (k : ℕ) → k < 1 → rain_at (rain_record 100) k ≤ rain_at (rain_record 200) k
@@ -76,7 +75,7 @@ twice-the-rain = record { rains = rains; releases = λ k l. absurd (omega (arith
 
 -- both, by one line of all that is to be worked out
 worked-out : (program example_input ≡ example_output) × TwoStormsDiffer
-unfolding last_cell element_among element_of tank_of draining_into inlet_of last_of cell_at gauge_of cells cell_place extra_before extra_tanks tanks_fit released own_of corrected_by moved stored element_step observation_numbers move_numbers stored_numbers element_numbers shifted_rains element_at by_kind lag_fits basin_fits reach_fits dam_fits kind_fits element_fits down_fits start_answer step_rules step_on_answer step_answer forecast_on_answer forecast_answer all_below offset_of piece_at curve_at table_version gauge_size beta_at gauge_from gauge_place gauge_at offset_fits offset_zero piece_of top_before piece_in_use_fits piece_unused piece_fits curve_fits element_before not_on_dam beta_fits gauge_fits joined line_from element_lines answer_lines refusal_line gain gain_margin corrected_discharge corrected_variance corrected correction_numbers step_inflow no_inflow joined_inflow old_outflow old_and_new_outflow reach_inflow mean_rain_inflow forecast_inflow inflow_numbers routed_discharge old_variance_part inflow_variance_part routed_variance routed variance_numbers routing_numbers listed by_element_and_lead forecast_figures space_fits leads_answer rain_count rain_sum lead_inflow forecast_own lead_figures lead_numbers layout weight_of network_down network_cell network_outflow above_of new_figures network_numbers step_own observed_in no_observation step_figures step_put stepped step_numbers piece_for depth discharge_at on_piece rated basin_of dam_of count_before version_of gauge_bytes rain_at release_at stage_at reading_of reading_by reading_at pieces_of look_by look_on deviation noise_of with_noise rate_answer observation_of accepted_observation observation_at at_element rain_of release_of input_rain input_release input_observation input_at record-rules.length_fits record-rules.version_fits rain_fits release_fits stage_fits stages_kept floats_kept is_accepted reading_fits record_rules record_bytes rest_after records_text run_text program figures_lines refusal_printed forecast_printed step_printed record_printed figures_fit rains_fit place_fits elements_fit state-rules.tanks_fit state_fits steps_left first_figures first_put started figures_of rains_of place_of put_figures put_rains put_place changed below in_use table_in table-rules.length_fits table-rules.version_fits counts_fit size_fits table_rules table_of table_part empty_state input_answer digits_within decimal line some_passes under_ceiling drained walked gathered new_cell weighted_mean gap_of blended turned weight state_places forecast_places paired is_reading has_reading_after is_refused state_handed step_handed forecast_handed has_reading_by next_state outcome cabinet_run start_outcome outcomes state_after records_of NotRefused AcceptedWhole
+unfolding last_cell element_among element_of tank_of draining_into inlet_of last_of cell_at gauge_of cells cell_place extra_before extra_tanks tanks_fit released own_of corrected_by moved stored element_step observation_numbers move_numbers stored_numbers element_numbers shifted_rains element_at kind_of same_kind by_kind lag_fits basin_fits reach_fits dam_fits kind_fits element_fits down_fits start_answer step_rules step_on_answer step_answer forecast_on_answer forecast_answer all_below offset_of piece_at curve_at table_version gauge_size beta_at gauge_from gauge_place gauge_at offset_fits offset_zero piece_of top_before piece_in_use_fits piece_unused piece_fits curve_fits element_before not_on_dam beta_fits gauge_fits joined line_from element_lines answer_lines refusal_line gain gain_margin corrected_discharge corrected_variance corrected correction_numbers step_inflow no_inflow joined_inflow old_outflow old_and_new_outflow reach_inflow mean_rain_inflow forecast_inflow inflow_numbers routed_discharge old_variance_part inflow_variance_part routed_variance routed variance_numbers routing_numbers listed by_element_and_lead forecast_figures space_fits leads_answer rain_count rain_sum lead_inflow forecast_own lead_figures lead_numbers layout weight_of network_down network_cell network_outflow above_of new_figures network_numbers step_own observed_in no_observation step_figures step_put stepped step_numbers piece_for depth discharge_at on_piece rated basin_of dam_of count_before version_of gauge_bytes rain_at release_at stage_at reading_of reading_by reading_at pieces_of look_by look_on deviation noise_of with_noise rate_answer observation_of accepted_observation observation_at at_element rain_of release_of input_rain input_release input_observation input_at record-rules.length_fits record-rules.version_fits rain_fits release_fits stage_fits stages_kept floats_kept is_accepted reading_fits record_rules record_bytes rest_after records_text run_text program figures_lines refusal_printed forecast_printed step_printed record_printed figures_fit rains_fit place_fits elements_fit state-rules.tanks_fit state_fits steps_left first_figures first_put started figures_of rains_of place_of put_figures put_rains put_place changed below in_use table_in table-rules.length_fits table-rules.version_fits counts_fit size_fits table_rules table_of table_part empty_state input_answer digits_within decimal line some_passes under_ceiling drained walked gathered new_cell weighted_mean gap_of blended turned weight state_places forecast_places paired is_reading has_reading_after is_refused state_handed step_handed forecast_handed has_reading_by next_state outcome cabinet_run start_outcome outcomes state_after records_of NotRefused AcceptedWhole
 worked-out = (
   refl,
   record {

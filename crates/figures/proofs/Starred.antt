@@ -6,7 +6,7 @@ use Rattle.rating.specs.Rating.{piece_for, depth, discharge_at, on_piece, rated}
 use Rattle.method.specs.Correction.{gain, gain_margin, corrected_discharge, corrected_variance, corrected}
 use Rattle.fields.specs.Ranges.{all_below}
 use Rattle.elements.specs.Elements.{element_at}
-use Rattle.elements.specs.Kinds.{by_kind}
+use Rattle.elements.specs.Kinds.{kind_of, same_kind, by_kind}
 use Rattle.elements.specs.Rules.{lag_fits, basin_fits, reach_fits, dam_fits, kind_fits, element_fits, down_fits}
 use Rattle.gauges.specs.Gauges.{table_version, gauge_size}
 use Rattle.table.specs.Tables.{table_of}
@@ -16,7 +16,7 @@ use Rattle.figures.specs.Starred.{Starred}
 use Rattle.figures.proofs.Output.{whole-output}
 
 pub starred : Starred
-unfolding turned weight weighted_mean gap_of blended piece_for depth discharge_at on_piece rated gain gain_margin corrected_discharge corrected_variance corrected all_below element_at by_kind lag_fits basin_fits reach_fits dam_fits kind_fits element_fits down_fits table_version gauge_size table_of length_fits version_fits counts_fit size_fits table_rules start_answer
+unfolding turned weight weighted_mean gap_of blended piece_for depth discharge_at on_piece rated gain gain_margin corrected_discharge corrected_variance corrected all_below element_at kind_of same_kind by_kind lag_fits basin_fits reach_fits dam_fits kind_fits element_fits down_fits table_version gauge_size table_of length_fits version_fits counts_fit size_fits table_rules start_answer
 starred =
     record {
       weight-of-an-hour = refl;
