@@ -20,7 +20,8 @@ use Rattle.method.specs.declared.Figures.{Figures}
 use Rattle.method.specs.Figures.{FiguresFit}
 use Rattle.elements.specs.declared.Element.{Element}
 use Rattle.elements.specs.Elements.{element_at}
-use Rattle.elements.specs.Kinds.{tanks, extra_tanks}
+use Rattle.elements.specs.Kinds.{tanks, extra_tanks, same_kind}
+use mathlib.Core.Bool.{Bool, true, false}
 use Rattle.elements.specs.Bounds.{AcceptedElement}
 use Rattle.table.specs.Tables.{TableValues}
 use Rattle.table.specs.KindCounts.{extra_before}
@@ -43,12 +44,11 @@ use Rattle.lead_walk.specs.Worked.{LeadsReady, ElementWorked}
 use Rattle.tank_walk.proofs.ForecastLaws.{Ready, ready-one, ready-small, last_under, forecast-again}
 use Rattle.element_weights.specs.Weights.{element_weight}
 use Rattle.element_weights.proofs.WeightsLaws.{weight-held}
-use Rattle.elements.specs.declared.Kind.{Kind}
 use Rattle.network_leads.specs.Inputs.{lead_input}
 use Rattle.network_leads.specs.Worked.{Given, spare_rows, space_size, LeadsSoFar, LeadsPass, RunReady, RunWorked}
 use Rattle.network_leads.proofs.InputLaws.{figures-fit, input-in-range, input-of}
 use Rattle.network_leads.proofs.WorkLaws.{space_most, all_room, places-apart, worked-first, first-stays}
-use Rattle.elements.proofs.KindLaws.{ne-same}
+use Rattle.elements.proofs.KindLaws.{ne-same, same-true, same-false}
 
 pub first-is : (t : TableValues) (s : State) (i : ℕ) (f : Figures) → i < t.elements → f ≡ figures_of s i → f ≡ lead_figures t s 0 (last_cell t i)
 unfolding lead_figures
@@ -205,31 +205,31 @@ module _ {bytes : List ℕ} {n L : ℕ} {weight : List ℕ} {s : State} {from i 
     here = omega (arith, left, g.elements)
 
     -- the next is one of tanks
-    pub run-tanks : {kind : Option Kind} → kind ≡ (element_at bytes i).kind → kind ≡ tanks → RunWorked (Ok (Some i)) river s L from before
+    pub run-tanks : {test : Bool} → test ≡ same_kind (element_at bytes i).kind tanks → test ≡ true → RunWorked (Ok (Some i)) river s L from before
     unfolding RunWorked
-    run-tanks is k =
+    run-tanks e tested =
         record {
           later = h.later;
           used = here;
-          kind = ap (λ (e : Element). e.kind) (element-read bytes i here) ∙ (sym is ∙ k);
+          kind = ap (λ (e : Element). e.kind) (element-read bytes i here) ∙ same-true _ _ (sym e ∙ tested);
           single = h.single;
           held = h.held;
         }
 
     -- what is known at its turn, where it is none
     pub run-turn :
-        {kind : Option Kind} {f : Figures} {space : List ℕ} {count : ℕ} {c : ElementInput}
-        → kind ≡ (element_at bytes i).kind
-        → kind ≢ tanks
+        {test : Bool} {f : Figures} {space : List ℕ} {count : ℕ} {c : ElementInput}
+        → test ≡ same_kind (element_at bytes i).kind tanks
+        → test ≡ false
         → f ≡ figures_of s i
         → space ≡ put before ((i + 1) * (L + 1)) f
         → count ≡ rain_count (steps_of s)
         → c ≡ lead_input (element_at bytes i) (get_or weight i 0) count s i
         → Turn g i before f space (get_or weight i 0) count c
-    run-turn is single first placed few made =
+    run-turn e tested first placed few made =
         record {
           used = here;
-          single = λ e. single (is ∙ e);
+          single = same-false _ _ (sym e ∙ tested);
           room = omega (arith, r.room, h.size);
           worked = h.held;
           first = first;

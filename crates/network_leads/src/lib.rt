@@ -17,7 +17,7 @@ use rain_sums::{rain_count, sum_of};
 use refusal::Refusal;
 use sizes::STATE_NUMBERS;
 use state::{discharge_of, figures_of};
-use tank_walk::{TankPlaces, open_tanks};
+use tank_walk::{TankPlaces, is_tanks, open_tanks};
 
 // What the leads of an element are worked out from: its weight and its own number.
 fn input_of(element: Element, weight: u64, own: u64) -> ElementInput
@@ -85,7 +85,7 @@ fn work_run(
     let steps = state[1];
     let count = rain_count(steps);
     for i in from..n {
-        if let Some(Kind::Tanks) = kind_at(table, i) {
+        if is_tanks(table, i) {
             return Ok(Some(i));
         }
         let first = figures_of(state, i);

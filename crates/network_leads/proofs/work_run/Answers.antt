@@ -1,43 +1,39 @@
 -- `work_run` meets its contract.
-use mathlib.Core.Path.{◌≡◌}
 use native.Mathlib.Omega.{arith}
-use Rattle.std.proofs.Common.{rules}
-use Rattle.elements.specs.Kinds.{tanks}
 use Rattle.network_leads.proofs.TurnLaws.{run-tanks, run-turn, run-passed, run-again, below-most, turn-ready, turn-refused}
 use Rattle.network_leads.proofs.work_run.Goals as goal
 
-pub returns-in-Some-Tanks : goal.returns-in-Some-Tanks
-returns-in-Some-Tanks c =
-    let k : c.kind_at.result ≡ tanks = search rules in
-    run-tanks c.requires.0 c.requires.1 c.loop-i.invariant c.loop-i-test.true c.kind_at.ensures k
+pub returns-then-is_tanks : goal.returns-then-is_tanks
+returns-then-is_tanks c =
+    run-tanks c.requires.0 c.requires.1 c.loop-i.invariant c.loop-i-test.true c.is_tanks.ensures c.if-is_tanks.true
 
 pub overflow_mul-below : goal.overflow_mul-below
 overflow_mul-below c =
-    let turn = run-turn c.requires.0 c.requires.1 c.loop-i.invariant c.loop-i-test.true c.kind_at.ensures (search rules)
+    let turn = run-turn c.requires.0 c.requires.1 c.loop-i.invariant c.loop-i-test.true c.is_tanks.ensures c.if-is_tanks.false
     c.figures_of-first.ensures c.put_figures.ensures c.rain_count-count.ensures.0 c.lead_input-input.ensures in
     omega (arith, below-most c.requires.0 turn)
 
 pub overflow_add-below : goal.overflow_add-below
 overflow_add-below c =
-    let turn = run-turn c.requires.0 c.requires.1 c.loop-i.invariant c.loop-i-test.true c.kind_at.ensures (search rules)
+    let turn = run-turn c.requires.0 c.requires.1 c.loop-i.invariant c.loop-i-test.true c.is_tanks.ensures c.if-is_tanks.false
     c.figures_of-first.ensures c.put_figures.ensures c.rain_count-count.ensures.0 c.lead_input-input.ensures in
     omega (arith, below-most c.requires.0 turn)
 
 pub work_element-requires : goal.work_element-requires
 work_element-requires c =
     turn-ready c.requires.0
-    (run-turn c.requires.0 c.requires.1 c.loop-i.invariant c.loop-i-test.true c.kind_at.ensures (search rules)
+    (run-turn c.requires.0 c.requires.1 c.loop-i.invariant c.loop-i-test.true c.is_tanks.ensures c.if-is_tanks.false
     c.figures_of-first.ensures c.put_figures.ensures c.rain_count-count.ensures.0 c.lead_input-input.ensures)
 
 pub returns-in_err-work_element : goal.returns-in_err-work_element
 returns-in_err-work_element c =
-    let turn = run-turn c.requires.0 c.requires.1 c.loop-i.invariant c.loop-i-test.true c.kind_at.ensures (search rules)
+    let turn = run-turn c.requires.0 c.requires.1 c.loop-i.invariant c.loop-i-test.true c.is_tanks.ensures c.if-is_tanks.false
     c.figures_of-first.ensures c.put_figures.ensures c.rain_count-count.ensures.0 c.lead_input-input.ensures in
     run-passed c.requires.0 c.requires.1 c.loop-i.invariant _ _ _
     (turn-refused c.requires.0 turn _ _ c.work_element.ensures c.in_err-work_element.was) c.from_residual.ensures.1
 
 pub loop-i-preserved : goal.loop-i-preserved
 loop-i-preserved c =
-    let turn = run-turn c.requires.0 c.requires.1 c.loop-i.invariant c.loop-i-test.true c.kind_at.ensures (search rules)
+    let turn = run-turn c.requires.0 c.requires.1 c.loop-i.invariant c.loop-i-test.true c.is_tanks.ensures c.if-is_tanks.false
     c.figures_of-first.ensures c.put_figures.ensures c.rain_count-count.ensures.0 c.lead_input-input.ensures in
     run-again c.requires.0 c.requires.1 c.loop-i.invariant turn c.work_element.ensures c.in_ok-work_element.was c.work_element.auto.space
