@@ -1,0 +1,2 @@
+pub mod ObserveLaws
+pub mod ReaderLaws
