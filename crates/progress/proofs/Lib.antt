@@ -1,3 +1,1 @@
-pub mod MoveLaws
-pub mod TestLaws
 pub mod PlacesLaws

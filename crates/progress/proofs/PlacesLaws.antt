@@ -1,13 +1,16 @@
 -- Laws of what is held, by where it lies.
-use Prim.Native.Nat.{ℕ, zero, suc, ◌+◌, ◌-◌, ◌≤◌, ◌<◌}
+use Prim.Native.Nat.{ℕ, ◌+◌, ◌-◌, ◌≤◌, ◌<◌}
 use mathlib.Core.Bool.{false}
-use mathlib.Core.List.{List, [], ◌∷◌, ◌++◌}
-use mathlib.Core.Path.{◌≡◌, refl, sym, ap, subst, ◌∙◌}
+use mathlib.Core.List.{List, ◌++◌}
+use mathlib.Core.Path.{◌≡◌, sym, ap, ◌∙◌}
 use native.Mathlib.Omega.{arith}
-use native.Mathlib.Nat.{add-zero}
+use native.Mathlib.Nat.{add-zero, zero-add}
 use borrow.Author.Tests.{ne_eqb}
-use lib.ListN.{length, take, drop, take-append-drop}
-use lib.Seq.{drop-drop, length-take-le, take-append-add, drop-append-le}
+use lib.ListN.{length, take, drop, length-drop}
+use lib.Seq.{drop-drop, length-take-le, take-add, drop-append-le}
+use Rattle.std.specs.List.{copy_within}
+use Rattle.std.proofs.lemmas.Slice.{between_is}
+use Rattle.std.proofs.lemmas.List.Edits.{take-paste}
 use Rattle.state.specs.States.{State}
 use Rattle.program_run.specs.Machine.{given, closed}
 use Rattle.progress.specs.declared.Progress.{Progress}
@@ -15,36 +18,18 @@ use Rattle.progress.specs.Places.{held_in, in_front, after_read, MovedFront, Rea
 
 -- ---- the bytes from one place to another
 
-take-nothing : (k : ℕ) → take {A = ℕ} k [] ≡ []
-take-nothing zero = refl
-take-nothing (suc k) = refl
-
-pub window : (from have : ℕ) (l : List ℕ) → take (have - from) (drop from l) ≡ drop from (take have l)
-window zero have l = let all : have - 0 ≡ have = omega arith in ap (λ k. take k l) all
-window (suc from) zero l =
-    let none : 0 - suc from ≡ 0 = omega arith in ap (λ k. take k (drop (suc from) l)) none
-window (suc from) (suc have) [] = take-nothing (suc have - suc from)
-window (suc from) (suc have) (x ∷ l) =
-    let same : suc have - suc from ≡ have - from = omega arith in ap (λ k. take k (drop from l)) same ∙ window from have l
-
 -- they depend on the bytes before the second place alone
 pub window_same :
     (from have : ℕ) (l m : List ℕ) → take have l ≡ take have m → take (have - from) (drop from l) ≡ take (have - from) (drop from m)
-window_same from have l m e = window from have l ∙ ap (drop from) e ∙ sym (window from have m)
+window_same from have l m e = between_is l from have ∙ ap (drop from) e ∙ sym (between_is m from have)
 
 -- some of them used
 pub window-later :
     (from have k : ℕ) (l : List ℕ) → take (have - (from + k)) (drop (from + k) l) ≡ drop k (take (have - from) (drop from l))
 window-later from have k l =
-    window (from + k) have l ∙ sym (drop-drop k from (take have l)) ∙ ap (drop k) (sym (window from have l))
+    between_is l (from + k) have ∙ sym (drop-drop k from (take have l)) ∙ ap (drop k) (sym (between_is l from have))
 
 -- more of them read
-take_more : (n k : ℕ) (l : List ℕ) → n ≤ length l → take (n + k) l ≡ take n l ++ take k (drop n l)
-take_more n k l h =
-    let start : length (take n l) ≡ n = length-take-le n l h in
-    ap (take (n + k)) (sym (take-append-drop n l))
-    ∙ subst (λ i. take (i + k) (take n l ++ drop n l) ≡ take n l ++ take k (drop n l)) start (take-append-add (take n l) (drop n l) k)
-
 pub window_more :
     (from have got : ℕ) (before after : List ℕ)
     → from ≤ have
@@ -53,10 +38,10 @@ pub window_more :
     → take (have + got - from) (drop from after) ≡ take (have - from) (drop from before) ++ take got (drop have after)
 window_more from have got before after order inside e =
     let start : length (take have after) ≡ have = length-take-le have after inside in
-    window from (have + got) after
-    ∙ ap (drop from) (take_more have got after inside)
+    between_is after from (have + got)
+    ∙ ap (drop from) (take-add have got after)
     ∙ drop-append-le from (take have after) (take got (drop have after)) (omega (arith, start))
-    ∙ ap (λ (l : List ℕ). l ++ take got (drop have after)) (sym (window from have after) ∙ window_same from have after before e)
+    ∙ ap (λ (l : List ℕ). l ++ take got (drop have after)) (sym (between_is after from have) ∙ window_same from have after before e)
 
 -- ---- what is held
 
@@ -87,11 +72,17 @@ read-in p r got e =
 
 pub moved-front-held :
     (p r : Progress) (before after : List ℕ)
+    → p.from ≤ p.have
+    → p.have ≤ length before
     → r ≡ in_front p
-    → take (p.have - p.from) after ≡ take (p.have - p.from) (drop p.from before)
+    → after ≡ copy_within before p.from p.have 0
     → MovedFront p before r after
 unfolding held_in
-moved-front-held p r before after e moved =
-    let all : p.have - p.from - 0 ≡ p.have - p.from = omega arith in
-    let bytes = ap (λ k. take k after) all ∙ moved in
-    record { same = e; held = λ table state out. simp (e, bytes) }
+moved-front-held p r before after order inside e moved =
+    let n = p.have - p.from in
+    let all : n - 0 ≡ n = omega arith in
+    let bytes : take n after ≡ take n (drop p.from before) =
+    ap (take n) moved
+    ∙ ap (λ k. take k (copy_within before p.from p.have 0)) (sym (zero-add n))
+    ∙ take-paste before 0 (drop p.from before) n (omega arith) (omega (arith, length-drop p.from before)) in
+    record { same = e; held = λ table state out. simp (e, all, bytes) }

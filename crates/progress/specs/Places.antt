@@ -32,101 +32,31 @@ pub record FirstProgress (r : Progress) : Type 0 where
 
 -- the text is handed over
 abbrev pub after_write : Progress → Progress
-after_write p =
-    record {
-      judged = p.judged;
-      from = p.from;
-      have = p.have;
-      over = p.over;
-      left = p.left;
-      counts = p.counts;
-      length = p.length;
-      at = 0;
-    }
+after_write p = record p { at = 0 }
 
 -- the bytes that are not used yet are moved to the front
 abbrev pub in_front : Progress → Progress
-in_front p =
-    record {
-      judged = p.judged;
-      from = 0;
-      have = p.have - p.from;
-      over = p.over;
-      left = p.left;
-      counts = p.counts;
-      length = p.length;
-      at = p.at;
-    }
+in_front p = record p { from = 0; have = p.have - p.from }
 
 -- so many bytes are read after them; where none came, the input has ended
 abbrev pub after_read : Progress → ℕ → Progress
-after_read p got =
-    record {
-      judged = p.judged;
-      from = p.from;
-      have = p.have + got;
-      over = eqb got 0;
-      left = p.left;
-      counts = p.counts;
-      length = p.length;
-      at = p.at;
-    }
+after_read p got = record p { have = p.have + got; over = eqb got 0 }
 
 -- a table of so many bytes is accepted
 abbrev pub after_table : Progress → Counts → ℕ → Progress
-after_table p counts size =
-    record {
-      judged = true;
-      from = p.from + size;
-      have = p.have;
-      over = p.over;
-      left = p.left;
-      counts = counts;
-      length = size;
-      at = p.at;
-    }
+after_table p counts size = record p { judged = true; from = p.from + size; counts = counts; length = size }
 
 -- the table is refused: no record is answered, and text stands up to a place
 abbrev pub after_refusal : Progress → ℕ → Progress
-after_refusal p at =
-    record {
-      judged = true;
-      from = p.from;
-      have = p.have;
-      over = p.over;
-      left = 0;
-      counts = p.counts;
-      length = p.length;
-      at = at;
-    }
+after_refusal p at = record p { judged = true; left = 0; at = at }
 
 -- a record of so many bytes is answered, which ends the run or not
 abbrev pub after_record : Progress → ℕ → Bool → ℕ → Progress
-after_record p size ended at =
-    record {
-      judged = p.judged;
-      from = p.from + size;
-      have = p.have;
-      over = p.over;
-      left = cond ended 0 (p.left - 1);
-      counts = p.counts;
-      length = p.length;
-      at = at;
-    }
+after_record p size ended at = record p { from = p.from + size; left = cond ended 0 (p.left - 1); at = at }
 
 -- the input has ended before a record's first byte
 abbrev pub after_stop : Progress → Progress
-after_stop p =
-    record {
-      judged = p.judged;
-      from = p.from;
-      have = p.have;
-      over = p.over;
-      left = 0;
-      counts = p.counts;
-      length = p.length;
-      at = p.at;
-    }
+after_stop p = record p { left = 0 }
 
 -- ---- and what is then held
 

@@ -25,38 +25,36 @@ pub struct Progress {
 }
 
 // Before the first byte.
+#[tactic(auto, unfolding(crate::specs::Places::held_in, program_run::specs::Machine::first))]
 pub fn first_progress() -> Progress
     ensures { FirstProgress result }
 {
-    let counts = Counts {
-        step: 0,
-        leads: 0,
-        elements: 0,
-        gauges: 0,
-        basins: 0,
-        dams: 0,
-        extra: 0,
-    };
     Progress {
         judged: false,
         from: 0,
         have: 0,
         over: false,
         left: MOST_RECORDS,
-        counts,
+        counts: Counts {
+            step: 0,
+            leads: 0,
+            elements: 0,
+            gauges: 0,
+            basins: 0,
+            dams: 0,
+            extra: 0,
+        },
         length: 0,
         at: 0,
     }
 }
 
 // Whether no record is left to be answered.
+#[tactic(auto, unfolding(program_run::specs::Machine::none_left))]
 pub fn has_ended(judged: bool, left: u64) -> bool
     ensures { result ≡ none_left judged left }
 {
-    if judged {
-        return left == 0;
-    }
-    false
+    judged && left == 0
 }
 
 // Whether so many bytes of text go out now.
@@ -64,25 +62,15 @@ pub fn has_ended(judged: bool, left: u64) -> bool
 pub fn text_due(ended: bool, wants: bool, at: usize) -> bool
     ensures { result ≡ goes_out ended wants at }
 {
-    if at == 0 {
-        return false;
-    }
-    if ended {
-        return true;
-    }
-    if wants {
-        return true;
-    }
-    TEXT_BUFFER - TEXT_BYTES < at
+    at > 0 && (ended || wants || at > TEXT_BUFFER - TEXT_BYTES)
 }
 
 // The text is handed over.
+#[tactic(auto, unfolding(crate::specs::Places::held_in, program_run::specs::Machine::written))]
 pub fn after_write(p: Progress) -> Progress
     ensures { TextWritten p result }
 {
-    let mut after = p;
-    after.at = 0;
-    after
+    Progress { at: 0, ..p }
 }
 
 // A table of so many bytes is accepted.
@@ -93,12 +81,9 @@ pub fn after_table(p: Progress, counts: Counts, size: usize) -> Progress
     Progress {
         judged: true,
         from: p.from + size,
-        have: p.have,
-        over: p.over,
-        left: p.left,
         counts,
         length: size,
-        at: p.at,
+        ..p
     }
 }
 
@@ -106,19 +91,13 @@ pub fn after_table(p: Progress, counts: Counts, size: usize) -> Progress
 pub fn after_refusal(p: Progress, at: usize) -> Progress
     ensures { result ≡ after_refusal p at }
 {
-    let mut after = p;
-    after.judged = true;
-    after.left = 0;
-    after.at = at;
-    after
-}
-
-// How many records are left after one that ends the run or not.
-fn left_after(left: u64, ended: bool) -> u64
-    requires { 0 < left }
-    ensures { result ≡ cond ended 0 (left - 1) }
-{
-    if ended { 0 } else { left - 1 }
+    let judged = true;
+    Progress {
+        judged,
+        left: 0,
+        at,
+        ..p
+    }
 }
 
 // A record of so many bytes is answered, and its text ends at a place.
@@ -126,32 +105,19 @@ pub fn after_record(p: Progress, size: usize, ended: bool, end: usize) -> Progre
     requires { (0 < p.left) × (p.from + size ≤ p.have) }
     ensures { result ≡ after_record p size ended end }
 {
-    let mut after = p;
-    after.from = p.from + size;
-    after.left = left_after(p.left, ended);
-    after.at = end;
-    after
+    Progress {
+        from: p.from + size,
+        left: if ended { 0 } else { p.left - 1 },
+        at: end,
+        ..p
+    }
 }
 
 // The input has ended before a record's first byte.
 pub fn after_stop(p: Progress) -> Progress
     ensures { result ≡ after_stop p }
 {
-    let mut after = p;
-    after.left = 0;
-    after
-}
-
-// The bytes from a place on, moved to the front.
-fn move_front(input: &mut [u8], from: usize, count: usize)
-    requires { from + count ≤ length input.old }
-    ensures { take count input.new ≡ take count (drop from input.old) }
-{
-    let mut i = 0;
-    while i < count {
-        input[i] = input[from + i];
-        i += 1;
-    }
+    Progress { left: 0, ..p }
 }
 
 // The bytes that are not used yet, moved to the front, so that there is room for more after them.
@@ -159,13 +125,12 @@ pub fn moved_front(p: Progress, input: &mut [u8]) -> Progress
     requires { WindowFits p input.old }
     ensures { MovedFront p input.old result input.new }
 {
-    let from = p.from;
-    let count = p.have - from;
-    move_front(&mut *input, from, count);
-    let mut after = p;
-    after.from = 0;
-    after.have = count;
-    after
+    input.copy_within(p.from..p.have, 0);
+    Progress {
+        from: 0,
+        have: p.have - p.from,
+        ..p
+    }
 }
 
 // What a read of so many bytes after those that were held leaves; the input has ended where it brought none.
@@ -173,8 +138,9 @@ pub fn after_read(p: Progress, got: usize) -> Progress
     requires { p.have + got ≤ input_buffer }
     ensures { ReadIn p got result }
 {
-    let mut after = p;
-    after.have = p.have + got;
-    after.over = got == 0;
-    after
+    Progress {
+        have: p.have + got,
+        over: got == 0,
+        ..p
+    }
 }
