@@ -1,64 +1,67 @@
 // The digits of a figure, at most ten of them, in groups of four.
 #![tactic(auto)]
 
-ghost use Rattle.std.specs.Prelude.{[], ◌∷◌, ◌++◌, ◌≡◌, ◌+◌, ◌≤◌, ◌<◌, length};
+ghost use Rattle.std.specs.Prelude.{[], ◌∷◌, ◌++◌, ◌+◌, ◌≤◌, ◌<◌, length};
 ghost use Rattle.text.specs.Decimal.{decimal};
-ghost use Rattle.text.specs.Places.{Put};
+ghost use Rattle.text.specs.Places.{TextPut};
 
-use text::{DigitFours, put_last_digits};
+use text::{DigitFours, TextSpace};
 
-// The digits of a number of at most four, put at a place; the place after them.
-fn put_short(out: &mut [u8], at: usize, v: u32, fours: &DigitFours) -> usize
-    requires { (v < 10000) × (at + 4 ≤ length out.old) }
-    ensures { Put out.old at (decimal v) out.new result × (result ≤ at + 4) }
+// The digits of a number of at most four.
+fn put_short(text: &mut TextSpace<'_>, v: u32, fours: &DigitFours)
+    requires { (v < 10000) × (text.old.at + 4 ≤ length text.old.bytes.now) }
+    ensures { TextPut text.old (decimal v) text.new × (text.new.at ≤ text.old.at + 4) }
 {
     if v < 10 {
-        out[at] = (48 + v) as u8;
-        return at + 1;
+        text.put_byte((48 + v) as u8);
+        return;
     }
     if v < 100 {
-        return put_last_digits::<2>(out, at, v, fours);
+        text.put_last_digits::<2>(v, fours);
+        return;
     }
     if v < 1_000 {
         // One store of four bytes, the last of which does not count.
-        put_last_digits::<4>(out, at, 10 * v, fours);
-        return at + 3;
+        text.put_last_digits::<4>(10 * v, fours);
+        text.at -= 1;
+        return;
     }
-    put_last_digits::<4>(out, at, v, fours)
+    text.put_last_digits::<4>(v, fours);
 }
 
-// The digits of a number of at most eight, put at a place; the place after them.
-fn put_upper(out: &mut [u8], at: usize, v: u32, fours: &DigitFours) -> usize
-    requires { (v < 100000000) × (at + 8 ≤ length out.old) }
-    ensures { Put out.old at (decimal v) out.new result × (result ≤ at + 8) }
+// The digits of a number of at most eight.
+fn put_upper(text: &mut TextSpace<'_>, v: u32, fours: &DigitFours)
+    requires { (v < 100000000) × (text.old.at + 8 ≤ length text.old.bytes.now) }
+    ensures { TextPut text.old (decimal v) text.new × (text.new.at ≤ text.old.at + 8) }
 {
     if v < 10_000 {
-        return put_short(out, at, v, fours);
+        put_short(text, v, fours);
+        return;
     }
     let first = v / 10_000;
-    let end = put_short(out, at, first, fours);
-    put_last_digits::<4>(out, end, v - 10_000 * first, fours)
+    put_short(text, first, fours);
+    text.put_last_digits::<4>(v - 10_000 * first, fours);
 }
 
-// The digits of a number of at most ten, put at a place; the place after them. A short number, as most margins are, goes the shortest way.
-fn put_decimal(out: &mut [u8], at: usize, x: u32, fours: &DigitFours) -> usize
-    requires { at + 12 ≤ length out.old }
-    ensures { Put out.old at (decimal x) out.new result }
+// The digits of a number of at most ten. A short number, as most margins are, goes the shortest way.
+fn put_decimal(text: &mut TextSpace<'_>, x: u32, fours: &DigitFours)
+    requires { text.old.at + 12 ≤ length text.old.bytes.now }
+    ensures { TextPut text.old (decimal x) text.new × (text.new.at ≤ text.old.at + 12) }
 {
     if x < 10_000 {
-        return put_short(out, at, x, fours);
+        put_short(text, x, fours);
+        return;
     }
     let upper = x / 10_000;
-    let end = put_upper(out, at, upper, fours);
-    put_last_digits::<4>(out, end, x - 10_000 * upper, fours)
+    put_upper(text, upper, fours);
+    text.put_last_digits::<4>(x - 10_000 * upper, fours);
 }
 
-// As text::put_number, and faster, for numbers of at most ten digits: the figures of each line.
-pub fn put_figure(out: &mut [u8], at: usize, x: u32, after: u8, fours: &DigitFours) -> usize
-    requires { at + 21 ≤ length out.old }
-    ensures { Put out.old at (decimal x ++ after ∷ []) out.new result × (result ≤ at + 21) }
+// As TextSpace::put_number, and faster, for numbers of at most ten digits: the figures of each line.
+pub fn put_figure(text: &mut TextSpace<'_>, x: u32, after: u8, fours: &DigitFours)
+    requires { text.old.at + 21 ≤ length text.old.bytes.now }
+    ensures { TextPut text.old (decimal x ++ after ∷ []) text.new × (text.new.at ≤ text.old.at + 21) }
 {
-    let end = put_decimal(out, at, x, fours);
-    out[end] = after;
-    end + 1
+    put_decimal(text, x, fours);
+    text.put_byte(after);
 }

@@ -2,20 +2,21 @@
 -- and a byte after them: at most 147 bytes.
 use Rattle.std.specs.Prelude.{ℕ, ◌+◌, ◌*◌, ◌≤◌, ◌<◌, List, ◌≡◌, length, take}
 use Rattle.sizes.specs.Sizes.{most_elements}
-use Rattle.text.specs.Places.{Put}
+use Rattle.text.specs.declared.TextSpace.{TextSpace}
+use Rattle.text.specs.Places.{TextPut}
 use Rattle.lines.specs.Ceiling.{FiguresUnderCeiling}
 
 -- the four figures from a place on
-pub record FiguresReady (out : List ℕ) (at : ℕ) (numbers : List ℕ) (from : ℕ) : Type 0 where
-  pub room : at + 84 ≤ length out
+pub record FiguresReady (text : TextSpace) (numbers : List ℕ) (from : ℕ) : Type 0 where
+  pub room : text.at + 84 ≤ length text.bytes.now
   pub there : from + 4 ≤ length numbers
   pub under : FiguresUnderCeiling numbers (from + 4)
 
 -- a line, with a start of so many bytes
 pub record LineReady
-    (out : List ℕ) (at : ℕ) (start : List ℕ) (size lead : ℕ) (numbers : List ℕ) (from : ℕ)
+    (text : TextSpace) (start : List ℕ) (size lead : ℕ) (numbers : List ℕ) (from : ℕ)
     : Type 0 where
-  pub room : at + 147 ≤ length out
+  pub room : text.at + 147 ≤ length text.bytes.now
   pub whole : length start ≡ 32
   pub few : size ≤ 32
   pub lead_few : lead < 100
@@ -24,9 +25,9 @@ pub record LineReady
 
 -- the lines of element i, with a start that says the step count already
 pub record ElementReady
-    (out : List ℕ) (at : ℕ) (numbers start : List ℕ) (size i leads : ℕ)
+    (text : TextSpace) (numbers start : List ℕ) (size i leads : ℕ)
     : Type 0 where
-  pub room : at + 147 * leads ≤ length out
+  pub room : text.at + 147 * leads ≤ length text.bytes.now
   pub there : 4 * (i * leads + leads) ≤ length numbers
   pub element : i < most_elements
   pub leads_few : leads ≤ 100
@@ -36,15 +37,15 @@ pub record ElementReady
 
 -- these lines put, and the step count still in the start
 pub record ElementPut
-    (before : List ℕ) (at : ℕ) (lines after : List ℕ) (next leads size : ℕ) (start₀ start : List ℕ)
+    (before : TextSpace) (lines : List ℕ) (after : TextSpace) (leads size : ℕ) (start₀ start : List ℕ)
     : Type 0 where
-  pub text : Put before at lines after next
-  pub within : next ≤ at + 147 * leads
+  pub text : TextPut before lines after
+  pub within : after.at ≤ before.at + 147 * leads
   pub kept : take size start ≡ take size start₀
 
 -- the lines of so many elements
-pub record LinesReady (out : List ℕ) (at : ℕ) (numbers : List ℕ) (elements leads : ℕ) : Type 0 where
-  pub room : at + 147 * (elements * leads) ≤ length out
+pub record LinesReady (text : TextSpace) (numbers : List ℕ) (elements leads : ℕ) : Type 0 where
+  pub room : text.at + 147 * (elements * leads) ≤ length text.bytes.now
   pub there : 4 * (elements * leads) ≤ length numbers
   pub elements_few : elements ≤ most_elements
   pub leads_few : leads ≤ 100

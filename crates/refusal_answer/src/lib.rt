@@ -8,23 +8,14 @@ ghost use Rattle.refusal_answer.specs.Answers.{TextAnswered};
 
 use lines::put_refusal;
 use refusal::Refusal;
+use text::TextSpace;
 
-// The place after the text of a record or of a refused table, and whether it ends the run.
-#[derive(Clone, Copy)]
-pub struct TextAnswer {
-    pub end: usize,
-    pub ended: bool,
-}
-
-// A refusal's line, put at a place, after so many accepted steps.
-pub fn answer_refusal(refusal: Refusal, steps: u64, out: &mut [u8], at: usize) -> TextAnswer
-    requires { at + 50 ≤ length out.old }
-    ensures { TextAnswered result out.old at out.new (refusal_line steps (number refusal)) (leb (number refusal) 10) }
+// A refusal's line after so many accepted steps, and whether it ends the run.
+pub fn answer_refusal(refusal: Refusal, steps: u64, text: &mut TextSpace<'_>) -> bool
+    requires { text.old.at + 50 ≤ length text.old.bytes.now }
+    ensures { TextAnswered result text.old text.new (refusal_line steps (number refusal)) (leb (number refusal) 10) }
 {
     let code = refusal.code();
-    let end = put_refusal(out, at, steps, code);
-    TextAnswer {
-        end,
-        ended: code <= 10,
-    }
+    put_refusal(text, steps, code);
+    code <= 10
 }

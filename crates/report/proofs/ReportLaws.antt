@@ -2,7 +2,7 @@
 use Rattle.std.specs.Prelude.{Result, Ok, Err}
 use Prim.{Unit}
 use Prim.Native.Nat.{ℕ, ◌+◌, ◌*◌, ◌≤◌}
-use mathlib.Core.Bool.{true, false}
+use mathlib.Core.Bool.{Bool, true, false}
 use mathlib.Core.List.{List}
 use mathlib.Core.Path.{◌≡◌, refl, sym, ap, subst, fun_ext, ◌∙◌}
 use native.Mathlib.Omega.{arith}
@@ -28,12 +28,12 @@ use Rattle.element_weights.specs.Weights.{Weighed}
 use Rattle.network.specs.Lent.{layout}
 use Rattle.entries.specs.Entries.{step_answer, step_on_answer, forecast_answer, forecast_on_answer}
 use Rattle.entries.proofs.NextLaws.{next_fits, next-length}
-use Rattle.text.specs.Places.{Put}
-use Rattle.text.proofs.PlacesLaws.{put_same}
+use Rattle.text.specs.declared.TextSpace.{TextSpace}
+use Rattle.text.specs.Places.{TextPut}
+use Rattle.text.proofs.PlacesLaws.{text-same}
 use Rattle.lines.specs.Ceiling.{FiguresUnderCeiling}
 use Rattle.lines.specs.Printed.{answer_lines, refusal_line}
 use Rattle.lines.proofs.PrintedLaws.{lines-before}
-use Rattle.refusal_answer.specs.declared.TextAnswer.{TextAnswer}
 use Rattle.refusal_answer.specs.Answers.{TextAnswered}
 use Rattle.program.specs.Records.{Printed, figures_lines, refusal_printed, forecast_printed, step_printed, record_printed, record_on_printed}
 use Rattle.report.specs.Answers.{RecordReady, TextAnsweredOf, Reported}
@@ -43,34 +43,31 @@ use Rattle.report.proofs.FiguresLaws.{ForecastShown, few-lines}
 
 -- what is printed of a refusal, where another name says the same
 pub text-as :
-    {r : TextAnswer} {before after : List ℕ} {at : ℕ} {p q : Printed}
-    → p ≡ q
-    → TextAnsweredOf r before at after p
-    → TextAnsweredOf r before at after q
-text-as {r} {before} {after} {at} e h = subst (λ (x : Printed). TextAnsweredOf r before at after x) e h
+    {r : Bool} {before after : TextSpace} {p q : Printed} → p ≡ q → TextAnsweredOf r before after p → TextAnsweredOf r before after q
+text-as {r} {before} {after} e h = subst (λ (x : Printed). TextAnsweredOf r before after x) e h
 
 pub refusal-printed :
-    (s : State) (n : ℕ) {r : TextAnswer} {before after : List ℕ} {at : ℕ}
-    → TextAnswered r before at after (refusal_line (steps_of s) n) (leb n 10)
-    → TextAnsweredOf r before at after (refusal_printed s n)
+    (s : State) (n : ℕ) {r : Bool} {before after : TextSpace}
+    → TextAnswered r before after (refusal_line (steps_of s) n) (leb n 10)
+    → TextAnsweredOf r before after (refusal_printed s n)
 unfolding refusal_printed
 refusal-printed s n h = h
 
 -- the lines of an accepted forecast
 pub lines-printed :
-    (t : TableValues) (s : State) (numbers : List ℕ) (end : ℕ) {before after : List ℕ} {at : ℕ}
+    (t : TableValues) (s : State) (numbers : List ℕ) {before after : TextSpace}
     → ForecastShown t s numbers
-    → Put before at (answer_lines (steps_of s) (t.leads + 1) numbers t.elements) after end
-    → end ≤ at + text_bytes
-    → TextAnsweredOf (record { end = end; ended = false }) before at after (forecast_printed t s (forecast_on_answer t s answer_numbers))
+    → TextPut before (answer_lines (steps_of s) (t.leads + 1) numbers t.elements) after
+    → after.at ≤ before.at + text_bytes
+    → TextAnsweredOf false before after (forecast_printed t s (forecast_on_answer t s answer_numbers))
 unfolding forecast_printed figures_lines
-lines-printed t s numbers end {before} {after} {at} h p few =
+lines-printed t s numbers {before} {after} h p few =
     let all = layout h.figures in
     let behind = drop (length (layout h.figures)) numbers in
     let same = lines-before (steps_of s) (t.leads + 1) t.elements (layout h.figures) behind (omega (arith, h.counted)) in
     rw h.answered
     (record {
-      text = put_same (ap (λ (l : List ℕ). answer_lines (steps_of s) (t.leads + 1) l t.elements) (sym h.shown) ∙ same) p;
+      text = text-same (ap (λ (l : List ℕ). answer_lines (steps_of s) (t.leads + 1) l t.elements) (sym h.shown) ∙ same) p;
       ended = refl;
       within = few;
     })
@@ -115,21 +112,21 @@ module _ (t : TableValues) (bytes : List ℕ) (s after : State) (v : Result Unit
   step-refused k e = let both = answered-not v after (step_on_answer t bytes s) s h e in (both.1, rw both.0)
 
   pub reported-accepted :
-      {r : TextAnswer} {before out : List ℕ} {at : ℕ}
+      {r : Bool} {before out : TextSpace}
       → v ≡ (Ok tt)
-      → TextAnsweredOf r before at out (forecast_printed t after (forecast_on_answer t after answer_numbers))
-      → Reported r before at out after (record_on_printed t bytes s)
-  reported-accepted {r} {before} {out} {at} e k =
+      → TextAnsweredOf r before out (forecast_printed t after (forecast_on_answer t after answer_numbers))
+      → Reported r before out after (record_on_printed t bytes s)
+  reported-accepted {r} {before} {out} e k =
       rw (← step-accepted e) (record { answered = k; left = forecast-state t after (forecast_on_answer t after answer_numbers) })
 
   pub reported-refused :
-      (k : Refusal) {r : TextAnswer} {before out : List ℕ} {at : ℕ}
+      (k : Refusal) {r : Bool} {before out : TextSpace}
       → v ≡ Err k
-      → TextAnswered r before at out (refusal_line (steps_of after) (number k)) (leb (number k) 10)
-      → Reported r before at out after (record_on_printed t bytes s)
-  reported-refused k {r} {before} {out} {at} e x =
+      → TextAnswered r before out (refusal_line (steps_of after) (number k)) (leb (number k) 10)
+      → Reported r before out after (record_on_printed t bytes s)
+  reported-refused k {r} {before} {out} e x =
       let both = step-refused k e in
-      let x' : TextAnswered r before at out (refusal_line (steps_of s) (number k)) (leb (number k) 10) = rw both.0 at x in
+      let x' : TextAnswered r before out (refusal_line (steps_of s) (number k)) (leb (number k) 10) = rw both.0 at x in
       rw (← both.1) (record { answered = refusal-printed s (number k) x'; left = both.0 ∙ refusal-state s (number k) })
 
 -- ---- the counts of a table
@@ -146,10 +143,10 @@ module _ (bytes : List ℕ) (counts : Counts) (weights : List ℕ) (p : Weighed 
 
   -- and its lines are those of the table
   pub counted-lines :
-      (steps : ℕ) (numbers : List ℕ) {before after : List ℕ} {at end : ℕ}
-      → Put before at (answer_lines steps (counts.leads + 1) numbers counts.elements) after end
-      → Put before at (answer_lines steps ((table_in bytes).leads + 1) numbers (table_in bytes).elements) after end
-  counted-lines steps numbers h = put_same (rw (p.counted.counted.held.leads, p.counted.counted.held.elements)) h
+      (steps : ℕ) (numbers : List ℕ) {before after : TextSpace}
+      → TextPut before (answer_lines steps (counts.leads + 1) numbers counts.elements) after
+      → TextPut before (answer_lines steps ((table_in bytes).leads + 1) numbers (table_in bytes).elements) after
+  counted-lines steps numbers h = text-same (rw (p.counted.counted.held.leads, p.counted.counted.held.elements)) h
 
   pub counted-under :
       (numbers : List ℕ)
@@ -200,11 +197,11 @@ module _ (t : TableValues) (bytes : List ℕ) (s : State) (bounds : AcceptedBoun
 
 -- and so for every record on what it relies on
 pub record-left :
-    (table bytes : List ℕ) (counts : Counts) (weights : List ℕ) (s : State) (space out : List ℕ) (at : ℕ) {after : State}
-    → RecordReady table counts weights s space out at
+    (table bytes : List ℕ) (counts : Counts) (weights : List ℕ) (s : State) (space : List ℕ) (text : TextSpace) {after : State}
+    → RecordReady table counts weights s space text
     → after ≡ (record_on_printed (table_in table) bytes s).state
     → (length after ≡ state_numbers) × (state_fits (table_in table) after ≡ true)
-record-left table bytes counts weights s space out at h e = (
+record-left table bytes counts weights s space text h e = (
   rw e (record-length (table_in table) bytes s h.weighed.counted.counted.table.bounds h.state_whole),
   rw e (record-fits (table_in table) bytes s h.weighed.counted.counted.table.bounds h.state_whole h.state_kept),
 )

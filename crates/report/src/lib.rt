@@ -8,13 +8,13 @@ ghost use Rattle.program.specs.Records.{forecast_printed, record_on_printed};
 ghost use Rattle.report.specs.Answers.{RecordReady, TextAnsweredOf, Reported};
 
 use lines::put_lines;
-use refusal_answer::{TextAnswer, answer_refusal};
+use refusal_answer::answer_refusal;
 use sizes::STATE_NUMBERS;
 use table::Counts;
-use text::DigitFours;
+use text::{DigitFours, TextSpace};
 
-// The forecast after an accepted step, which rule 8 never refuses: its lines, or its refusal's. It is worked out in lent space, in which
-// its answer begins after the places of what leaves the river.
+// The forecast after an accepted step, which rule 8 never refuses: its lines, or its refusal's, which may end the run. It is worked out in
+// lent space, in which its answer begins after the places of what leaves the river.
 fn answer_forecast(
     table: &[u8],
     counts: Counts,
@@ -22,36 +22,26 @@ fn answer_forecast(
     state: &[u64; STATE_NUMBERS],
     space: &mut [u64],
     fours: &DigitFours,
-    out: &mut [u8],
-    at: usize,
-) -> TextAnswer
-    requires { RecordReady table.now counts weights.now state.now space.old out.old at }
-    ensures { TextAnsweredOf result out.old at out.new (forecast_printed (table_in table.now) state.now (forecast_on_answer (table_in table.now) state.now answer_numbers)) }
+    text: &mut TextSpace<'_>,
+) -> bool
+    requires { RecordReady table.now counts weights.now state.now space.old text.old }
+    ensures { TextAnsweredOf result text.old text.new (forecast_printed (table_in table.now) state.now (forecast_on_answer (table_in table.now) state.now answer_numbers)) }
 {
-    let answer = leads::forecast_in(table, counts, weights, state, &mut *space);
+    let answer = leads::forecast_in(table, counts, weights, state, space);
     let steps = state[1];
-    let elements = counts.elements;
     let leads = counts.leads + 1;
     let first = 4 * leads;
     match answer {
         Ok(_) => {
-            let end = put_lines(
-                &mut *out,
-                at,
-                &space[first..],
-                steps,
-                elements,
-                leads,
-                fours,
-            );
-            TextAnswer { end, ended: false }
+            put_lines(text, &space[first..], steps, counts.elements, leads, fours);
+            false
         }
-        Err(refusal) => answer_refusal(refusal, steps, &mut *out, at),
+        Err(refusal) => answer_refusal(refusal, steps, text),
     }
 }
 
-// A record on an accepted table, its counts and weights, and a state that rule 8 accepts: what it prints is put at a place of lent space;
-// the other space is lent for its forecast, the digits of all groups of four for its lines.
+// A record on an accepted table, its counts and weights, and a state that rule 8 accepts: what it prints is put into lent space, and
+// whether it ends the run; the other space is lent for its forecast, the digits of all groups of four for its lines.
 pub fn answer_record(
     table: &[u8],
     counts: Counts,
@@ -60,31 +50,14 @@ pub fn answer_record(
     state: &mut [u64; STATE_NUMBERS],
     space: &mut [u64],
     fours: &DigitFours,
-    out: &mut [u8],
-    at: usize,
-) -> TextAnswer
-    requires { RecordReady table.now counts weights.now state.old space.old out.old at }
-    ensures { Reported result out.old at out.new state.new (record_on_printed (table_in table.now) bytes.now state.old) }
+    text: &mut TextSpace<'_>,
+) -> bool
+    requires { RecordReady table.now counts weights.now state.old space.old text.old }
+    ensures { Reported result text.old text.new state.new (record_on_printed (table_in table.now) bytes.now state.old) }
 {
-    let answer = record_step::step_lent(
-        table,
-        counts,
-        weights,
-        bytes,
-        &mut *space,
-        &mut *state,
-    );
-    match answer {
-        Ok(()) => answer_forecast(
-            table,
-            counts,
-            weights,
-            &*state,
-            &mut *space,
-            fours,
-            &mut *out,
-            at,
-        ),
-        Err(refusal) => answer_refusal(refusal, state[1], &mut *out, at),
+    let step = record_step::step_lent(table, counts, weights, bytes, space, state);
+    match step {
+        Ok(()) => answer_forecast(table, counts, weights, state, space, fours, text),
+        Err(refusal) => answer_refusal(refusal, state[1], text),
     }
 }

@@ -7,7 +7,8 @@ use native.Mathlib.Numerals.{add-one}
 use native.Mathlib.Omega.{arith}
 use lib.ListN.{length, take, set, length-append}
 use lib.Seq.{take-suc-set, take-take, take-append-add, take_at, length-take-le}
-use Rattle.text.specs.Places.{Put}
+use Rattle.text.specs.declared.TextSpace.{TextSpace}
+use Rattle.text.specs.Places.{Put, TextPut}
 
 pub put-nothing : (l : List ℕ) (at : ℕ) → Put l at [] l at
 put-nothing l at = record { holds = sym (append-nil (take at l)); ends = omega arith }
@@ -57,3 +58,31 @@ put-fewer count {l} {at} {bytes} {m} {i} p before few =
 pub put-before : {l : List ℕ} {at : ℕ} {a m : List ℕ} {i : ℕ} → Put l at a m i → at ≤ length l → take at m ≡ take at l
 put-before {l} {at} {a} {m} {i} p h =
     sym (take-take at i m (omega (arith, p.ends))) ∙ ap (take at) p.holds ∙ take_at (take at l) a at (length-take-le at l h)
+
+-- ---- the same of a space that holds its place
+
+pub text-nothing : (s : TextSpace) → TextPut s [] s
+text-nothing s = record { put = put-nothing s.bytes.now s.at; same = refl; room = refl }
+
+pub text-same : {a b : List ℕ} {s t : TextSpace} → a ≡ b → TextPut s a t → TextPut s b t
+text-same {s = s} {t = t} e p = subst (λ x. TextPut s x t) e p
+
+pub text-then : {a b : List ℕ} {s t u : TextSpace} → TextPut s a t → TextPut t b u → TextPut s (a ++ b) u
+text-then p q = record { put = put_then p.put q.put; same = q.same ∙ p.same; room = q.room ∙ p.room }
+
+-- a space of a function's own, made of another and put back
+pub text-lent :
+    {bytes : List ℕ} {s r own after : TextSpace}
+    → TextPut own bytes after
+    → own.bytes.now ≡ s.bytes.now
+    → own.at ≡ s.at
+    → r.bytes.now ≡ after.bytes.now
+    → r.bytes.ghost_name ≡ s.bytes.ghost_name
+    → r.at ≡ after.at
+    → TextPut s bytes r
+text-lent {bytes} {s} {r} {own} {after} p was start now same end =
+    record {
+      put = rw (← was, ← start, now, end) p.put;
+      same = same;
+      room = ap length now ∙ p.room ∙ ap length was;
+    }

@@ -1,36 +1,12 @@
-// Numbers and bytes as text, put into lent space.
+// Numbers and bytes as text, put into lent space at the place that it holds.
 #![tactic(auto)]
 
 ghost use Rattle.std.specs.Prelude.{[], ◌∷◌, ◌++◌, ◌≡◌, ◌+◌, ◌≤◌, ◌<◌, length};
 ghost use Rattle.text.specs.Decimal.{last_digits, decimal};
 ghost use Rattle.text.specs.Fours.{pair_of, fours_below};
-ghost use Rattle.text.specs.Places.{Put};
+ghost use Rattle.text.specs.Places.{TextPut};
 
 use std::array::from_fn;
-
-// The digits of x, put at a place one by one; the place after them.
-fn put_digits(out: &mut [u8], at: usize, x: u64) -> usize
-    requires { at + length (decimal x) ≤ length out.old }
-    ensures { Put out.old at (decimal x) out.new result }
-{
-    if x < 10 {
-        out[at] = (48 + x) as u8;
-        return at + 1;
-    }
-    let next = put_digits(out, at, x / 10);
-    out[next] = (48 + x % 10) as u8;
-    next + 1
-}
-
-// The digits of x one by one and then one byte, put at a place; the place after them.
-pub fn put_number(out: &mut [u8], at: usize, x: u64, after: u8) -> usize
-    requires { at + 21 ≤ length out.old }
-    ensures { Put out.old at (decimal x ++ after ∷ []) out.new result × (result ≤ at + 21) }
-{
-    let end = put_digits(out, at, x);
-    out[end] = after;
-    end + 1
-}
 
 // Two digits as bytes, the first one the lower byte.
 fn pair_of(v: u32) -> u32
@@ -58,43 +34,74 @@ impl DigitFours {
     }
 }
 
-// The last N digits of a number of at most four, zeros before them where it has fewer, put at a place; the place after them.
-pub fn put_last_digits<const N: usize>(
-    out: &mut [u8],
-    at: usize,
-    v: u32,
-    fours: &DigitFours,
-) -> usize
-    requires few { N ≤ 4 }
-    requires small { v < 10000 }
-    requires room { at + N ≤ length out.old }
-    ensures { Put out.old at (last_digits N v) out.new result × (result ≡ at + N) }
-{
-    let four = fours.words[v as usize].to_le_bytes();
-    put_bytes(out, at, &four[4 - N..])
+// Lent space, and the place in it that the next text is put at.
+#[derive(Drop)]
+pub struct TextSpace<'a> {
+    pub bytes: &'a mut [u8],
+    pub at: usize,
 }
 
-// A number of one or two digits and then one byte, put at a place; the place after them.
-pub fn put_small(out: &mut [u8], at: usize, x: u32, after: u8, fours: &DigitFours) -> usize
-    requires { (x < 100) × (at + 3 ≤ length out.old) }
-    ensures { Put out.old at (decimal x ++ after ∷ []) out.new result × (result ≤ at + 3) }
-{
-    if x < 10 {
-        out[at] = (48 + x) as u8;
-        out[at + 1] = after;
-        return at + 2;
+impl TextSpace<'_> {
+    pub fn put_bytes(&mut self, bytes: &[u8])
+        requires { self.old.at + length bytes.now ≤ length self.old.bytes.now }
+        ensures { TextPut self.old bytes.now self.new }
+    {
+        let end = self.at + bytes.len();
+        self.bytes[self.at..end].copy_from_slice(bytes);
+        self.at = end;
     }
-    let end = put_last_digits::<2>(out, at, x, fours);
-    out[end] = after;
-    end + 1
-}
 
-// Bytes put at a place; the place after them.
-pub fn put_bytes(out: &mut [u8], at: usize, bytes: &[u8]) -> usize
-    requires { at + length bytes.now ≤ length out.old }
-    ensures { Put out.old at bytes.now out.new result }
-{
-    let end = at + bytes.len();
-    out[at..end].copy_from_slice(bytes);
-    end
+    pub fn put_byte(&mut self, byte: u8)
+        requires { self.old.at < length self.old.bytes.now }
+        ensures { TextPut self.old (byte ∷ []) self.new }
+    {
+        self.bytes[self.at] = byte;
+        self.at += 1;
+    }
+
+    // The digits of x one by one.
+    fn put_digits(&mut self, x: u64)
+        requires { self.old.at + length (decimal x) ≤ length self.old.bytes.now }
+        ensures { TextPut self.old (decimal x) self.new }
+    {
+        if x < 10 {
+            self.put_byte((48 + x) as u8);
+            return;
+        }
+        self.put_digits(x / 10);
+        self.put_byte((48 + x % 10) as u8);
+    }
+
+    // The digits of x one by one and then one byte.
+    pub fn put_number(&mut self, x: u64, after: u8)
+        requires { self.old.at + 21 ≤ length self.old.bytes.now }
+        ensures { TextPut self.old (decimal x ++ after ∷ []) self.new × (self.new.at ≤ self.old.at + 21) }
+    {
+        self.put_digits(x);
+        self.put_byte(after);
+    }
+
+    // The last N digits of a number of at most four, zeros before them where it has fewer.
+    pub fn put_last_digits<const N: usize>(&mut self, v: u32, fours: &DigitFours)
+        requires few { N ≤ 4 }
+        requires small { v < 10000 }
+        requires room { self.old.at + N ≤ length self.old.bytes.now }
+        ensures { TextPut self.old (last_digits N v) self.new × (self.new.at ≡ self.old.at + N) }
+    {
+        let four = fours.words[v as usize].to_le_bytes();
+        self.put_bytes(&four[4 - N..]);
+    }
+
+    // A number of one or two digits and then one byte.
+    pub fn put_small(&mut self, x: u32, after: u8, fours: &DigitFours)
+        requires { (x < 100) × (self.old.at + 3 ≤ length self.old.bytes.now) }
+        ensures { TextPut self.old (decimal x ++ after ∷ []) self.new × (self.new.at ≤ self.old.at + 3) }
+    {
+        if x < 10 {
+            self.put_byte((48 + x) as u8);
+        } else {
+            self.put_last_digits::<2>(x, fours);
+        }
+        self.put_byte(after);
+    }
 }

@@ -4,5 +4,7 @@ use Rattle.lines.proofs.PrintedLaws.{figures-put}
 use Rattle.lines.proofs.put_figures.Goals as goal
 
 pub returns : goal.returns
-returns c =
-    (figures-put c.args.numbers.now c.args.from c.put_figure-p1.ensures.0 c.put_figure-p2.ensures.0 c.put_figure-p3.ensures.0 c.put_figure.ensures.0, omega arith)
+returns c = (
+  figures-put c.args.numbers.now c.args.from c.put_figure.ensures.0 c.put_figure-2.ensures.0 c.put_figure-3.ensures.0 c.put_figure-4.ensures.0,
+  omega arith,
+)

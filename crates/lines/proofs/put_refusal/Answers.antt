@@ -5,4 +5,6 @@ use Rattle.lines.proofs.put_refusal.Goals as goal
 
 pub returns : goal.returns
 returns c =
-    (refusal-put _ _ c.put_number-p1.ensures.0 c.put_bytes-p2.ensures c.put_number.ensures.0, omega arith)
+    let p = c.put_number.ensures in
+    let q = c.put_number-2.ensures in
+    (refusal-put _ _ p.0 c.put_bytes.ensures q.0, omega (arith, p.1, c.put_bytes.ensures.put.ends, q.1))

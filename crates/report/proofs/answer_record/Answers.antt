@@ -8,19 +8,19 @@ use Rattle.report.proofs.answer_record.Goals as goal
 pub answer_forecast-requires : goal.answer_forecast-requires
 answer_forecast-requires c =
     let p = c.requires in
-    let v = c.step_lent-verdict.ensures in
+    let v = c.step_lent-step.ensures in
     record {
       weighed = p.weighed;
       state_whole = step-length _ _ _ _ _ v p.weighed.counted.counted.table.bounds p.state_whole;
-      state_kept = answered-fits _ _ _ _ (cells-bounds _ p.weighed.counted.counted.table.bounds) p.state_whole _ v c.in-Accepted.is;
-      space_full = omega (arith, c.step_lent-verdict.auto, p.space_full);
+      state_kept = answered-fits _ _ _ _ (cells-bounds _ p.weighed.counted.counted.table.bounds) p.state_whole _ v c.in-Ok.is;
+      space_full = omega (arith, c.step_lent-step.auto, p.space_full);
       room = p.room;
     }
 
-pub returns-in-Accepted : goal.returns-in-Accepted
-returns-in-Accepted c =
-    reported-accepted _ _ _ _ _ c.step_lent-verdict.ensures c.in-Accepted.is c.answer_forecast.ensures
+pub returns-in-Ok : goal.returns-in-Ok
+returns-in-Ok c =
+    reported-accepted _ _ _ _ _ c.step_lent-step.ensures c.in-Ok.is c.answer_forecast.ensures
 
-pub returns-in-Refused : goal.returns-in-Refused
-returns-in-Refused c =
-    reported-refused _ _ _ _ _ c.step_lent-verdict.ensures _ c.in-Refused.is c.answer_refusal.ensures
+pub returns-in-Err : goal.returns-in-Err
+returns-in-Err c =
+    reported-refused _ _ _ _ _ c.step_lent-step.ensures _ c.in-Err.is c.answer_refusal.ensures
