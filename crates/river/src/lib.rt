@@ -66,6 +66,7 @@ pub struct Display {
 }
 
 // 0, or the number for no.
+#[tactic(auto, unfolding(crate::specs::Replies::refusal_of))]
 fn refusal_of(answer: Result<(), Refusal>) -> u64
     ensures { result ≡ refusal_of (answer_of answer) }
 {
@@ -78,6 +79,7 @@ fn refusal_of(answer: Result<(), Refusal>) -> u64
 impl From<Result<usize, Refusal>> for Written {
     ghost from_gives = { λ answer written. written ≡ written_reply (answer_of answer) };
 
+    #[tactic(auto, unfolding(crate::specs::Replies::written_reply))]
     fn from(answer: Result<usize, Refusal>) -> Self {
         match answer {
             Ok(count) => Written { refusal: 0, count },
@@ -92,6 +94,7 @@ impl From<Result<usize, Refusal>> for Written {
 impl From<CurveLook> for Rating {
     ghost from_gives = { λ look rating. rating ≡ rating_reply (look_of look) };
 
+    #[tactic(auto, unfolding(crate::specs::Replies::rating_reply, crate::specs::Replies::refusal_of, crate::specs::Replies::discharge_in, crate::specs::Replies::noise_in))]
     fn from(look: CurveLook) -> Self {
         match look.rated {
             Ok(rated) => Rating {
@@ -155,6 +158,7 @@ fn plan_of(counts: Counts) -> TablePlan
     }
 }
 
+#[tactic(auto, unfolding(crate::specs::Replies::no_plan))]
 fn no_plan(number: u64) -> TablePlan
     ensures { result ≡ no_plan number }
 {

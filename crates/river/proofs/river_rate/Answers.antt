@@ -4,4 +4,4 @@ use Rattle.river.specs.Replies.{rating_reply}
 use Rattle.river.proofs.river_rate.Goals as goal
 
 pub returns : goal.returns
-returns c = c.rating_reply.ensures ∙ ap rating_reply c.rate-answer.ensures
+returns c = c.from.ensures ∙ ap rating_reply c.rate.ensures

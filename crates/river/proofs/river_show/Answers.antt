@@ -4,4 +4,4 @@ use Rattle.river.specs.Replies.{display_reply}
 use Rattle.river.proofs.river_show.Goals as goal
 
 pub returns : goal.returns
-returns c = c.display_reply.ensures ∙ ap display_reply c.show-answer.ensures
+returns c = c.from.ensures ∙ ap display_reply c.show.ensures

@@ -3,4 +3,4 @@ use Rattle.river.proofs.ReplyLaws.{state-replied}
 use Rattle.river.proofs.river_start.Goals as goal
 
 pub returns : goal.returns
-returns c = state-replied _ _ _ _ _ c.start-verdict.ensures c.refusal_of.ensures
+returns c = state-replied _ _ _ _ _ c.start.ensures c.refusal_of.ensures

@@ -3,4 +3,4 @@ use Rattle.river.proofs.ReplyLaws.{forecast-replied}
 use Rattle.river.proofs.river_trial.Goals as goal
 
 pub returns : goal.returns
-returns c = forecast-replied _ _ _ _ _ c.trial-answer.ensures c.written_reply.ensures
+returns c = forecast-replied _ _ _ _ _ c.trial.ensures c.from.ensures
