@@ -14,20 +14,19 @@ use rating::{CurveLook, RatedReading};
 use readings::reading_of;
 use refusal::Refusal;
 use stage_curve::look_along;
-use units::{Discharge, Variance};
+use units::{Discharge, Stage, Variance};
 
 // Rule 16 on the noise of a reading.
+#[tactic(auto, unfolding(crate::specs::GaugeLooks::noise_judged, units::specs::Ceiling::under_ceiling, units::specs::Ceiling::some_passes))]
 fn judge_noise(rated: RatedReading) -> Result<RatedReading, Refusal>
     ensures { answer_of result ≡ noise_judged rated }
 {
-    let noise = rated.noise;
-    if Variance::CEILING < noise.0 {
-        return Err(Refusal::AboveCeiling);
-    }
+    Variance::new(rated.noise.0)?;
     Ok(rated)
 }
 
 // The same on what a look along a curve finds.
+#[tactic(auto, unfolding(crate::specs::GaugeLooks::judged_look))]
 fn judge_look(look: CurveLook) -> CurveLook
     ensures { look_of result ≡ judged_look (look_of look) }
 {
@@ -38,6 +37,7 @@ fn judge_look(look: CurveLook) -> CurveLook
 }
 
 // No curve is looked along, and no piece is read.
+#[tactic(auto, unfolding(crate::specs::GaugeLooks::no_look))]
 fn no_look(rated: Result<RatedReading, Refusal>) -> CurveLook
     ensures { look_of result ≡ no_look (answer_of rated) }
 {
@@ -66,20 +66,18 @@ fn look_at(table: &[u8], n: usize, m: usize, k: usize, stage: u64) -> CurveLook
     if m < k {
         return no_reading();
     }
-    let at = place_of(table, n, k - 1);
-    judge_look(look_along(table, at, stage))
+    judge_look(look_along(table, place_of(table, n, k - 1), stage))
 }
 
 // The same of a stage field: no piece for a gap or a stage that 13 refuses.
+#[tactic(auto, unfolding(crate::specs::GaugeLooks::reading_look))]
 fn look_at_field(table: &[u8], n: usize, m: usize, k: usize, field: u64) -> CurveLook
     requires { CountedTable table.now n m }
     ensures { look_of result ≡ reading_look (table_in table.now) k (reading_of field) }
 {
-    let reading = reading_of(field);
-    match reading {
+    match reading_of(field) {
         None => no_reading(),
-        Some(stage) => {
-            let h = stage.0;
+        Some(Stage(h)) => {
             if 30_000 < h {
                 return no_look(Err(Refusal::StageRange));
             }
