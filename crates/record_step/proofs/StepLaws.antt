@@ -1,5 +1,6 @@
 -- Laws of a step or a trial by a record: its rules in checking order after rule 8, and the state that a step leaves.
-use Rattle.std.specs.Prelude.{Result, Ok, Err}
+use Rattle.std.specs.Prelude.{Result, Ok, Err, IsErrAnd}
+use Rattle.std.proofs.lemmas.Result.{err_from_is_err_and}
 use Prim.{Unit}
 use Prim.Native.Nat.{ℕ, ◌+◌, ◌*◌, ◌≤◌, ◌<◌}
 use mathlib.Core.Bool.{Bool, true, false}
@@ -40,6 +41,10 @@ use Rattle.entries.proofs.StepRuleLaws as step-rules
 use Rattle.next_state.specs.Written.{TanksWritten, WriteReady, ElementsWritten}
 use Rattle.next_state.proofs.WriteLaws.{tanks-steps, written-in-parts}
 use Rattle.record_step.specs.Judged.{RiverGiven, StepJudged, worked_answer, RecordGiven, RecordWorked, WriteGiven}
+
+-- a refusal that is passed on
+pub passed-as : {A : Type 0} (v s : Result A Refusal) (k : Refusal) → v ≡ Err k → IsErrAnd s (λ (e : Refusal). e ≡ k) → v ≡ s
+passed-as v s k e p = let q = err_from_is_err_and s p in e ∙ sym (q.1 ∙ ap Err q.2)
 
 -- ---- the rules before 15 and 16
 

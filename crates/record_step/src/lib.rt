@@ -10,11 +10,16 @@ ghost use Rattle.network_step.specs.Held.{Cleared, place_count};
 ghost use Rattle.entries.specs.Entries.{step_on_answer};
 ghost use Rattle.record_step.specs.Judged.{RiverGiven, JudgeReady, StepJudged, RecordGiven, RecordWorked, SpaceGiven, LentGiven};
 
+use answer_space::clear;
 use element_weights::put_weights;
 use network_step::work_step;
 use next_state::{write_state, write_tanks};
 use refusal::Refusal;
-use sizes::{MEDIUM_PLACES, MEDIUM_STEP_SPACE, MIDDLE_ELEMENTS, MIDDLE_STEP_SPACE, MOST_ELEMENTS, OBSERVED_NUMBERS, SMALL_ELEMENTS, SMALL_OBSERVED_NUMBERS, SMALL_STEP_SPACE, STATE_NUMBERS, STEP_SPACE};
+use sizes::{
+    MEDIUM_PLACES, MEDIUM_STEP_SPACE, MIDDLE_ELEMENTS, MIDDLE_STEP_SPACE, MOST_ELEMENTS,
+    OBSERVED_NUMBERS, SMALL_ELEMENTS, SMALL_OBSERVED_NUMBERS, SMALL_STEP_SPACE, STATE_NUMBERS,
+    STEP_SPACE,
+};
 use table::Counts;
 
 // The rules of a step before 15 and 16 on an accepted table and the bytes of a record, from a state that rule 8 accepts: 9 to 14, 17 and 18;
@@ -107,7 +112,9 @@ fn step_in_largest_space(
     requires { RiverGiven table.now n extra basins dams state.old }
     ensures { Answered result state.new (step_on_answer (table_in table.now) bytes.now state.old) state.old }
 {
-    step_in_space::<MOST_ELEMENTS, OBSERVED_NUMBERS, STEP_SPACE>(table, n, extra, basins, dams, bytes, state)
+    step_in_space::<MOST_ELEMENTS, OBSERVED_NUMBERS, STEP_SPACE>(
+        table, n, extra, basins, dams, bytes, state,
+    )
 }
 
 // A step on an accepted table, its counts and the bytes of a record, from a state that rule 8 accepts: rules 9 to 14 and 16 to 18; in the
@@ -128,14 +135,20 @@ pub fn step_from(
     let dams = counts.dams;
     if extra == 0 {
         if n <= SMALL_ELEMENTS {
-            return step_in_space::<SMALL_ELEMENTS, SMALL_OBSERVED_NUMBERS, SMALL_STEP_SPACE>(table, n, 0, basins, dams, bytes, state);
+            return step_in_space::<SMALL_ELEMENTS, SMALL_OBSERVED_NUMBERS, SMALL_STEP_SPACE>(
+                table, n, 0, basins, dams, bytes, state,
+            );
         }
         if n <= MIDDLE_ELEMENTS {
-            return step_in_space::<MIDDLE_ELEMENTS, OBSERVED_NUMBERS, MIDDLE_STEP_SPACE>(table, n, 0, basins, dams, bytes, state);
+            return step_in_space::<MIDDLE_ELEMENTS, OBSERVED_NUMBERS, MIDDLE_STEP_SPACE>(
+                table, n, 0, basins, dams, bytes, state,
+            );
         }
     }
     if n + extra <= MEDIUM_PLACES {
-        return step_in_space::<MOST_ELEMENTS, OBSERVED_NUMBERS, MEDIUM_STEP_SPACE>(table, n, extra, basins, dams, bytes, state);
+        return step_in_space::<MOST_ELEMENTS, OBSERVED_NUMBERS, MEDIUM_STEP_SPACE>(
+            table, n, extra, basins, dams, bytes, state,
+        );
     }
     step_in_largest_space(table, n, extra, basins, dams, bytes, state)
 }
@@ -159,7 +172,7 @@ pub fn step_lent(
     judge_step(table, counts, bytes, &*state, &mut observed)?;
     let room = 4 * (n + extra + 1);
     let part = &mut space[..room];
-    part.fill(0);
+    clear(&mut *part);
     work_step(
         table,
         counts.basins,

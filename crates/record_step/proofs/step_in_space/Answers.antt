@@ -2,7 +2,7 @@
 use Prim.Native.Nat.{ℕ, ◌*◌}
 use mathlib.Core.Path.{ap}
 use native.Mathlib.Omega.{arith}
-use Rattle.record_step.proofs.StepLaws.{written-refused, elements-ready, both-written, write-given, spaces-ready}
+use Rattle.record_step.proofs.StepLaws.{passed-as, written-refused, elements-ready, both-written, write-given, spaces-ready}
 use Rattle.record_step.proofs.step_in_space.Goals as goal
 
 pub work_record-requires : goal.work_record-requires
@@ -11,7 +11,8 @@ work_record-requires g c =
 
 pub returns-in_err-work_record : goal.returns-in_err-work_record
 returns-in_err-work_record g c =
-    written-refused _ _ _ c.work_record.ensures (ap (λ (n : ℕ). 4 * n) c.requires.0.elements) c.in_err-work_record.is
+    rw (passed-as _ _ _ c.in_err-work_record.was c.from_residual.ensures.1) at
+    (written-refused _ _ _ c.work_record.ensures (ap (λ (n : ℕ). 4 * n) c.requires.0.elements) c.in_err-work_record.was)
 
 pub write_tanks-requires : goal.write_tanks-requires
 write_tanks-requires g c =
@@ -20,10 +21,10 @@ write_tanks-requires g c =
 
 pub write_state-requires : goal.write_state-requires
 write_state-requires g c =
-    elements-ready (write-given c.requires.0 (omega (arith, c.work_record.auto, c.requires.1.places)) c.work_record.ensures) c.in_ok-work_record.is
+    elements-ready (write-given c.requires.0 (omega (arith, c.work_record.auto, c.requires.1.places)) c.work_record.ensures) c.in_ok-work_record.was
     c.write_tanks.ensures
 
 pub returns : goal.returns
 returns g c =
-    both-written (write-given c.requires.0 (omega (arith, c.work_record.auto, c.requires.1.places)) c.work_record.ensures) c.in_ok-work_record.is
+    both-written (write-given c.requires.0 (omega (arith, c.work_record.auto, c.requires.1.places)) c.work_record.ensures) c.in_ok-work_record.was
     c.write_tanks.ensures c.write_state.ensures
