@@ -1,25 +1,25 @@
 -- Laws of the table and of a record, answered where they lie in the program's buffers.
-use Rattle.std.specs.Prelude.{Ok, Err}
+use Rattle.std.specs.Prelude.{Result, Ok, Err}
 use Prim.Native.Nat.{ℕ, zero, suc, ◌+◌, ◌-◌, ◌≤◌, ◌<◌}
-use mathlib.Core.Bool.{true, false}
-use mathlib.Core.List.{List, [], ◌∷◌}
+use mathlib.Core.Bool.{Bool, true, false}
+use mathlib.Core.List.{List, [], ◌∷◌, ◌++◌}
 use mathlib.Core.Path.{◌≡◌, refl, sym, ap, subst, ◌∙◌}
 use native.Mathlib.Omega.{arith}
 use lib.Dec.{leb}
 use lib.ListN.{length, take, drop, length-take, length-drop}
 use lib.Seq.{length-take-le}
-use Rattle.sizes.specs.Sizes.{state_numbers, table_bytes}
+use Rattle.sizes.specs.Sizes.{state_numbers}
 use Rattle.refusal.specs.Refusals.{number}
 use Rattle.refusal.specs.declared.Refusal.{Refusal}
 use Rattle.table.specs.InUse.{table_in}
 use Rattle.state.specs.States.{State}
-use Rattle.state.proofs.AnswerLaws.{answered-next, answered-not}
-use Rattle.text.specs.Places.{Put}
+use Rattle.text.specs.declared.TextSpace.{TextSpace}
+use Rattle.text.specs.Places.{TextPut}
 use Rattle.lines.specs.Printed.{refusal_line}
-use Rattle.refusal_answer.specs.declared.TextAnswer.{TextAnswer}
 use Rattle.refusal_answer.specs.Answers.{TextAnswered}
 use Rattle.table_input.specs.Start.{input_answer}
-use Rattle.table_input.specs.Starts.{StartedOnInput}
+use Rattle.table.specs.declared.Counts.{Counts}
+use Rattle.table_input.specs.Starts.{InputStarted, StartedOnInput}
 use Rattle.table_input.specs.declared.TableStart.{TableStart}
 use Rattle.table_input.proofs.StartsLaws.{started-input-kept, started-input-short, started-input-fits, started-input-length}
 use Rattle.program.specs.Records.{Printed, record_printed, record_on_printed}
@@ -89,72 +89,83 @@ pub answered-as :
 answered-as {h} {p} {r} {input} {table} {weights} {state} {out} e a =
     subst (λ (q : Progress). HeldAnswered h q input table weights state out) (sym e) a
 
+-- text put into lent space, by what stands in the buffer before and after
+text-in :
+    {s t : TextSpace} {before after line : List ℕ} {at : ℕ}
+    → TextPut s line t
+    → s.bytes.now ≡ before
+    → s.at ≡ at
+    → after ≡ t.bytes.now
+    → (take t.at after ≡ take at before ++ line) × (length after ≡ length before)
+text-in p b a e = (rw (e, ← b, ← a) p.put.holds, rw (e, ← b) p.room)
+
 -- ---- the table
 
 module _
     (p : Progress) (input table weights : List ℕ) (state : State) (out : List ℕ)
     (f : BuffersFit p input table weights state out) (d : TableDue p) (t : TableStart) (later : List ℕ) (after : State)
     (o : StartedOnInput (unused_in p input) state t later after) (full : length later ≡ length weights) where
-  short : t.verdict ≡ (Ok tt) → t.length ≤ table_bytes
-  short v = started-input-short _ _ _ _ _ f.sizes.state_whole o v
-
-  whole : length (take t.length (unused_in p input)) ≡ t.length
-  whole = length-take-le t.length (unused_in p input) o.within
+  started-as : (r : Result Counts Refusal) → t.counts ≡ r → InputStarted (unused_in p input) state r t.length later after
+  started-as r e = subst (λ (x : Result Counts Refusal). InputStarted (unused_in p input) state x t.length later after) e o.started
 
   -- there is room for an accepted table
-  pub table-room : t.verdict ≡ (Ok tt) → 0 + length (take t.length (unused_in p input)) ≤ length table
-  table-room v = omega (arith, short v, whole, f.sizes.table_whole)
+  pub table-room : (counts : Counts) → t.counts ≡ Ok counts → t.length ≤ length table
+  table-room counts e =
+      omega (arith, started-input-short _ _ _ _ _ _ f.sizes.state_whole (started-as (Ok counts) e) o.within, f.sizes.table_whole)
 
   pub table-accepted :
-      t.verdict ≡ (Ok tt)
-      → (kept : List ℕ) (end : ℕ)
-      → Put table 0 (take t.length (unused_in p input)) kept end
+      (counts : Counts)
+      → t.counts ≡ Ok counts
+      → (kept : List ℕ)
+      → take t.length kept ≡ take t.length (unused_in p input)
       → length kept ≡ length table
-      → HeldAnswered (held_in p input table state out) (after_table p t.counts t.length) input kept later after out
+      → HeldAnswered (held_in p input table state out) (after_table p counts t.length) input kept later after out
   unfolding held_in table_answered
-  table-accepted v kept end put same =
-      let ends : end ≡ t.length = omega (arith, put.ends, whole) in
-      let bytes : take t.length kept ≡ take t.length (unused_in p input) = subst (λ k. take k kept ≡ take t.length (unused_in p input)) ends put.holds in
-      let found = answered-next t.verdict after (input_answer (unused_in p input) state) state o.answered v in
-      let rest = window-later p.from p.have t.length input ∙ o.rest v in
+  table-accepted counts e kept bytes same =
+      let a = started-as (Ok counts) e in
+      let s = f.sizes.state_whole in
+      let rest = window-later p.from p.have t.length input ∙ a.rest in
       record {
-        held = rw (answered-table (held_in p input table state out) d.phase, found, rest, bytes ∙ o.bytes v);
+        held = rw (answered-table (held_in p input table state out) d.phase, a.answered, rest, bytes ∙ a.bytes);
         fits =
             record {
               order = omega (arith, f.order, o.within, unused-few p input);
               inside = f.inside;
-              table_inside = short v;
+              table_inside = started-input-short _ _ _ _ _ _ s a o.within;
               text_inside = f.text_inside;
-              sizes = sizes-kept f.sizes refl same full (started-input-length _ _ _ _ _ f.sizes.state_whole o v) refl;
+              sizes = sizes-kept f.sizes refl same full (started-input-length _ _ _ _ _ _ s a) refl;
               started =
                   λ j some.
                   rw bytes
                   (record {
-                    kept = started-input-kept _ _ _ _ _ f.sizes.state_whole o v;
-                    weighed = o.fits v;
-                    state_kept = started-input-fits _ _ _ _ _ f.sizes.state_whole o v;
+                    kept = started-input-kept _ _ _ _ _ _ s a;
+                    weighed = a.fits;
+                    state_kept = started-input-fits _ _ _ _ _ _ s a;
                   });
             };
       }
 
   pub table-refused :
-      {k : Refusal} (a : TextAnswer) (text : List ℕ)
-      → t.verdict ≡ Err k
-      → TextAnswered a out p.at text (refusal_line 0 (number k)) (leb (number k) 10)
-      → length text ≡ length out
-      → HeldAnswered (held_in p input table state out) (after_refusal p a.end) input table later after text
+      (k : Refusal) {r : Bool} {before end : TextSpace} {text : List ℕ}
+      → t.counts ≡ Err k
+      → TextAnswered r before end (refusal_line 0 (number k)) (leb (number k) 10)
+      → before.bytes.now ≡ out
+      → before.at ≡ p.at
+      → text ≡ end.bytes.now
+      → HeldAnswered (held_in p input table state out) (after_refusal p end.at) input table later after text
   unfolding held_in table_answered
-  table-refused {k} a text v put same =
-      let both = answered-not t.verdict after (input_answer (unused_in p input) state) state o.answered v in
+  table-refused k {end = end} {text = text} e put b at is =
+      let both = started-as (Err k) e in
+      let line = text-in put.text b at is in
       record {
-        held = rw (answered-table (held_in p input table state out) d.phase, both.0, both.1, put.text.holds);
+        held = rw (answered-table (held_in p input table state out) d.phase, both.0, both.1, line.0);
         fits =
             record {
               order = f.order;
               inside = f.inside;
               table_inside = f.table_inside;
-              text_inside = omega (arith, put.within, d.room);
-              sizes = sizes-kept f.sizes refl refl full (ap length both.1 ∙ f.sizes.state_whole) same;
+              text_inside = omega (arith, put.within, at, d.room);
+              sizes = sizes-kept f.sizes refl refl full (ap length both.1 ∙ f.sizes.state_whole) line.1;
               started = λ j some. absurd (omega (arith, some));
             };
       }
@@ -195,22 +206,27 @@ module _
       }
 
   -- what a record relies on
-  pub due-ready : (space : List ℕ) → WorkingSpace space → RecordReady (take p.length table) p.counts weights state space out p.at
-  due-ready space lent =
+  pub due-ready :
+      (space : List ℕ) (text : TextSpace)
+      → WorkingSpace space
+      → text.bytes.now ≡ out
+      → text.at ≡ p.at
+      → RecordReady (take p.length table) p.counts weights state space text
+  due-ready space text lent b at =
       let s = f.started d.phase d.some in
       record {
         weighed = s.weighed;
         state_whole = f.sizes.state_whole;
         state_kept = s.state_kept;
         space_full = lent.space_whole;
-        room = omega (arith, d.room, f.sizes.text_whole);
+        room = omega (arith, d.room, f.sizes.text_whole, at, ap length b);
       }
 
   module _
-      (space : List ℕ) (lent : WorkingSpace space) (size : ℕ) (r : TextAnswer) (after : State) (text : List ℕ)
+      (space : List ℕ) (lent : WorkingSpace space) (size : ℕ) (r : Bool) (after : State) (before end : TextSpace) (text : List ℕ)
       (some : p.from ≡ p.have → ⊥) (e : RecordEnd (unused_in p input) size)
-      (a : Reported r out p.at text after (record_on_printed (table_in (take p.length table)) (take size (unused_in p input)) state))
-      (same : length text ≡ length out) where
+      (a : Reported r before end after (record_on_printed (table_in (take p.length table)) (take size (unused_in p input)) state))
+      (b : before.bytes.now ≡ out) (at : before.at ≡ p.at) (is : text ≡ end.bytes.now) where
     abbrev printed : Printed
     printed = record_on_printed (table_in (take p.length table)) (take size (unused_in p input)) state
 
@@ -221,13 +237,14 @@ module _
         ∙ record-on (take p.length table) (take size (unused_in p input)) state (f.started d.phase d.some).kept
 
     pub record-answered :
-        HeldAnswered (held_in p input table state out) (after_record p size r.ended r.end) input table weights after text
+        HeldAnswered (held_in p input table state out) (after_record p size r end.at) input table weights after text
     unfolding held_in record_answered
     record-answered =
         let all = unused-all p input (omega (arith, f.inside, f.sizes.input_whole)) in
         let there : 0 < length (unused_in p input) = positive _ (λ z. some (omega (arith, f.order, all, z))) in
         let rest = window-later p.from p.have size input ∙ sym e.after in
-        let next = record-left _ _ _ _ _ _ _ _ (due-ready space lent) a.left in
+        let next = record-left _ _ _ _ _ _ _ (due-ready space before lent b at) a.left in
+        let line = text-in a.answered.text b at is in
         record {
           held =
               rw (
@@ -236,7 +253,7 @@ module _
                 printed-same,
                 rest,
                 a.answered.ended,
-                a.answered.text.holds,
+                line.0,
                 a.left,
               );
           fits =
@@ -244,8 +261,8 @@ module _
                 order = omega (arith, f.order, e.within, all);
                 inside = f.inside;
                 table_inside = f.table_inside;
-                text_inside = omega (arith, a.answered.within, d.room);
-                sizes = sizes-kept f.sizes refl refl refl next.0 same;
+                text_inside = omega (arith, a.answered.within, at, d.room);
+                sizes = sizes-kept f.sizes refl refl refl next.0 line.1;
                 started = λ j few. record { kept = (f.started d.phase d.some).kept; weighed = (f.started d.phase d.some).weighed; state_kept = next.1 };
               };
         }

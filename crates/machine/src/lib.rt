@@ -11,7 +11,7 @@ use refusal_answer::answer_refusal;
 use report::answer_record;
 use sizes::STATE_NUMBERS;
 use table_input::started_on_input;
-use text::{DigitFours, put_bytes};
+use text::{DigitFours, TextSpace};
 
 // What a call has done: so many bytes of text are handed over; the run has ended; more input is asked for, to be put at a place; or the
 // table or a record has been answered, and the next call goes on.
@@ -41,21 +41,21 @@ fn table_answered(
     requires { BuffersFit p input.now table.old weights.old state.old out.old × TableDue p }
     ensures { HeldAnswered (held_in p input.now table.old state.old out.old) result input.now table.new weights.new state.new out.new }
 {
-    let from = p.from;
-    let have = p.have;
-    let unused = &input[from..have];
-    let started = started_on_input(unused, &mut *weights, state);
-    let verdict = started.verdict;
-    let counts = started.counts;
+    let unused = &input[p.from..p.have];
+    let started = started_on_input(unused, weights, state);
     let size = started.length;
-    match verdict {
-        Ok(()) => {
-            put_bytes(&mut *table, 0, &unused[..size]);
+    match started.counts {
+        Ok(counts) => {
+            table[..size].copy_from_slice(&unused[..size]);
             after_table(p, counts, size)
         }
         Err(refusal) => {
-            let answer = answer_refusal(refusal, 0, &mut *out, p.at);
-            after_refusal(p, answer.end)
+            let mut text = TextSpace {
+                bytes: out,
+                at: p.at,
+            };
+            answer_refusal(refusal, 0, &mut text);
+            after_refusal(p, text.at)
         }
     }
 }
@@ -74,26 +74,26 @@ fn next_answered(
     requires { BuffersFit p input.now table.now weights.now state.old out.old × (WorkingSpace space.old × RecordDue p) }
     ensures { HeldAnswered (held_in p input.now table.now state.old out.old) result input.now table.now weights.now state.new out.new }
 {
-    let from = p.from;
-    let have = p.have;
-    let length = p.length;
-    if from == have {
+    if p.from == p.have {
         return after_stop(p);
     }
-    let unused = &input[from..have];
+    let unused = &input[p.from..p.have];
     let size = record_length(unused);
-    let answer = answer_record(
-        &table[..length],
+    let mut text = TextSpace {
+        bytes: out,
+        at: p.at,
+    };
+    let ended = answer_record(
+        &table[..p.length],
         p.counts,
         weights,
         &unused[..size],
-        &mut *state,
-        &mut *space,
+        state,
+        space,
         fours,
-        &mut *out,
-        p.at,
+        &mut text,
     );
-    after_record(p, size, answer.ended, answer.end)
+    after_record(p, size, ended, text.at)
 }
 
 // The table, or else the next record, is answered.
@@ -111,9 +111,10 @@ fn answered(
     ensures { HeldAnswered (held_in p input.now table.old state.old out.old) result input.now table.new weights.new state.new out.new }
 {
     if p.judged {
-        return next_answered(p, input, &*table, &*weights, state, space, fours, out);
+        next_answered(p, input, table, weights, state, space, fours, out)
+    } else {
+        table_answered(p, input, table, weights, state, out)
     }
-    table_answered(p, input, table, weights, state, out)
 }
 
 // The next thing: text is handed over, the run ends, input is asked for, or what is held is answered.
@@ -130,25 +131,29 @@ pub fn proceed(
     requires { BuffersFit p input.old table.old weights.old state.old out.old × WorkingSpace space.old }
     ensures { Turned (held_in p input.old table.old state.old out.old) result input.new table.new weights.new state.new out.new }
 {
-    let from = p.from;
-    let have = p.have;
-    let wants = wants_more(p.judged, p.over, &input[from..have]);
+    let wants = wants_more(p.judged, p.over, &input[p.from..p.have]);
     let ended = has_ended(p.judged, p.left);
     if text_due(ended, wants, p.at) {
-        let progress = after_write(p);
-        let next = Next::Write(p.at);
-        return Turn { progress, next };
+        return Turn {
+            progress: after_write(p),
+            next: Next::Write(p.at),
+        };
     }
     if ended {
-        let next = Next::End;
-        return Turn { progress: p, next };
+        return Turn {
+            progress: p,
+            next: Next::End,
+        };
     }
     if wants {
         let progress = moved_front(p, input);
-        let next = Next::Read(progress.have);
-        return Turn { progress, next };
+        return Turn {
+            progress,
+            next: Next::Read(progress.have),
+        };
     }
-    let progress = answered(p, &*input, table, weights, state, space, fours, out);
-    let next = Next::Answer;
-    Turn { progress, next }
+    Turn {
+        progress: answered(p, input, table, weights, state, space, fours, out),
+        next: Next::Answer,
+    }
 }
