@@ -1,13 +1,12 @@
 -- Laws of the state: what a change of one place leaves, the start and rule 8.
 use Prim.Native.Nat.{ℕ, zero, suc, ◌+◌, ◌≤◌, ◌<◌}
-use mathlib.Core.Bool.{Bool, true, false, cond, ◌&&◌, and-false}
+use mathlib.Core.Bool.{Bool, true, false, cond, and-false}
 use mathlib.Core.List.{List}
 use mathlib.Core.Logic.{◌≢◌, ⊎_elim}
 use mathlib.Core.Path.{◌≡◌, refl, sym, ap, subst, ◌∙◌}
 use native.Mathlib.Nat.{eq-or-lt_of_le}
 use native.Mathlib.Omega.{arith}
 use native.Mathlib.Numerals.{add-one}
-use lib.Dec.{leb, eqb}
 use lib.ListN.{length, get_or, set, length-set}
 use lib.Seq.{get_or-set_same, get_or-set_other}
 use Rattle.sizes.specs.Sizes.{most_places, state_numbers}
@@ -55,7 +54,7 @@ use Rattle.state.specs.States.{
   figures_put,
   no_rains,
 }
-use Rattle.state.specs.Rules.{figures_fit, place_fits, elements_fit, tanks_fit, state_fits}
+use Rattle.state.specs.Rules.{figures_fit, elements_fit, tanks_fit, state_fits}
 use Rattle.state.specs.Start.{first_figures, first_put, started}
 use Rattle.std.specs.Prelude.{Option}
 use Rattle.elements.specs.declared.Kind.{Kind}
@@ -262,21 +261,11 @@ head-kept s k v i l = number-apart s k v i (λ m few e. omega (arith, e, l))
 
 -- ---- a place after a start or a step
 
--- any other than a basin: its figures alone
-pub other-put : (kind : Option Kind) (f : Figures) (r : Rains) (i : ℕ) (s : State) → kind ≢ basin → put_figures s i f ≡ put_place kind f r i s
-unfolding put_place
-other-put kind f r i s n =
-    kind-cases (λ (x : State). put_figures s i f ≡ x) kind (λ k. absurd (n k)) (λ _. refl) (λ _. refl) (λ _ _ _. refl)
-
 pub place-changes : (kind : Option Kind) (f : Figures) (r : Rains) (i : ℕ) (s : State) → ChangesAt i s (put_place kind f r i s)
 unfolding put_place
 place-changes kind f r i s =
     let c = figures-change s i f in
     kind-cases (ChangesAt i s) kind (λ _. changes-then c (rains-change _ i r)) (λ _. c) (λ _. c) (λ _ _ _. c)
-
--- room for a place of the state
-pub place-room : (s : State) (i : ℕ) → length s ≡ state_numbers → i < most_places → place_start i + 6 < length s
-place-room s i full l = omega (arith, full, l)
 
 module _ (kind : Option Kind) (f : Figures) (r : Rains) (i : ℕ) (s : State) (room : place_start i + 6 < length s) where
   abbrev moved : State
@@ -497,28 +486,6 @@ module _ (table : List ℕ) (s : State) where
 -- ---- rule 8
 
 module _ (table : List ℕ) (s : State) where
-  -- on the place of element k
-  unfoldable pub place_test : ℕ → Bool
-  place_test k = place_fits ((table_in table).element k).kind (place_of s k)
-
-  pub place-tested :
-      (i : ℕ) {kind : Option Kind} {one : Bool}
-      → i < (table_in table).elements
-      → kind ≡ (element_at table i).kind
-      → one ≡ place_fits kind (place_of s i)
-      → one ≡ place_test i
-  unfolding place_test
-  place-tested i l k h = rw (element-read table i l, ← k) h
-
-  -- from its parts
-  pub state-tested :
-      {n : ℕ} {fit : Bool}
-      → n ≡ (table_in table).elements
-      → fit ≡ all_below (λ i. place_fits ((table_in table).element i).kind (place_of s i)) (table_in table).elements
-      → ((eqb (elements_of s) n && leb (steps_of s) 10000) && fit) ≡ elements_fit (table_in table) s
-  unfolding elements_fit
-  state-tested e h = rw (e, h)
-
   pub tanks-tested :
       {n x : ℕ} {fit : Bool}
       → n ≡ (table_in table).elements

@@ -1,2 +1,1 @@
-pub mod AllLaws
 pub mod JudgedLaws
