@@ -1,13 +1,13 @@
 -- Laws of what a record prints.
 use Rattle.std.specs.Prelude.{Result, Ok, Err}
 use Prim.{Unit}
-use Prim.Native.Nat.{ℕ, ◌+◌, ◌*◌, ◌≤◌}
+use Prim.Native.Nat.{ℕ, ◌+◌, ◌*◌, ◌-◌, ◌≤◌}
 use mathlib.Core.Bool.{Bool, true, false}
 use mathlib.Core.List.{List}
 use mathlib.Core.Path.{◌≡◌, refl, sym, ap, subst, fun_ext, ◌∙◌}
 use native.Mathlib.Omega.{arith}
 use lib.Dec.{leb}
-use lib.ListN.{length, drop}
+use lib.ListN.{length, take, drop}
 use Rattle.sizes.specs.Sizes.{most_elements, most_leads, state_numbers, answer_numbers, text_bytes}
 use Rattle.refusal.specs.Refusals.{number}
 use Rattle.refusal.specs.Answers.{Answer, accepted, refused}
@@ -37,50 +37,11 @@ use Rattle.lines.proofs.PrintedLaws.{lines-before}
 use Rattle.refusal_answer.specs.Answers.{TextAnswered}
 use Rattle.program.specs.Records.{Printed, figures_lines, refusal_printed, forecast_printed, step_printed, record_printed, record_on_printed}
 use Rattle.report.specs.Answers.{RecordReady, TextAnsweredOf, Reported}
-use Rattle.report.proofs.FiguresLaws.{ForecastShown, few-lines}
+use Rattle.report.proofs.FiguresLaws.{ForecastShown, forecast-shown, shown-under, rest_of, part_room, few-lines}
+use Rattle.leads.specs.Held.{ForecastHeld}
+use Rattle.lines.specs.Ready.{LinesReady}
 
--- ---- the text
-
--- what is printed of a refusal, where another name says the same
-pub text-as :
-    {r : Bool} {before after : TextSpace} {p q : Printed} → p ≡ q → TextAnsweredOf r before after p → TextAnsweredOf r before after q
-text-as {r} {before} {after} e h = subst (λ (x : Printed). TextAnsweredOf r before after x) e h
-
-pub refusal-printed :
-    (s : State) (n : ℕ) {r : Bool} {before after : TextSpace}
-    → TextAnswered r before after (refusal_line (steps_of s) n) (leb n 10)
-    → TextAnsweredOf r before after (refusal_printed s n)
-unfolding refusal_printed
-refusal-printed s n h = h
-
--- the lines of an accepted forecast
-pub lines-printed :
-    (t : TableValues) (s : State) (numbers : List ℕ) {before after : TextSpace}
-    → ForecastShown t s numbers
-    → TextPut before (answer_lines (steps_of s) (t.leads + 1) numbers t.elements) after
-    → after.at ≤ before.at + text_bytes
-    → TextAnsweredOf false before after (forecast_printed t s (forecast_on_answer t s answer_numbers))
-unfolding forecast_printed figures_lines
-lines-printed t s numbers {before} {after} h p few =
-    let all = layout h.figures in
-    let behind = drop (length (layout h.figures)) numbers in
-    let same = lines-before (steps_of s) (t.leads + 1) t.elements (layout h.figures) behind (omega (arith, h.counted)) in
-    rw h.answered
-    (record {
-      text = text-same (ap (λ (l : List ℕ). answer_lines (steps_of s) (t.leads + 1) l t.elements) (sym h.shown) ∙ same) p;
-      ended = refl;
-      within = few;
-    })
-
--- a refused one
-pub forecast-refused :
-    (t : TableValues) (s : State) (k : ℕ)
-    → forecast_on_answer t s answer_numbers ≡ refused k
-    → refusal_printed s k ≡ forecast_printed t s (forecast_on_answer t s answer_numbers)
-unfolding forecast_printed
-forecast-refused t s k e = rw e
-
--- ---- the state beside it
+-- ---- the state beside the text
 
 forecast-state : (t : TableValues) (s : State) (answer : Answer (List Figures)) → s ≡ (forecast_printed t s answer).state
 unfolding forecast_printed refusal_printed
@@ -124,35 +85,71 @@ module _ (t : TableValues) (bytes : List ℕ) (s after : State) (v : Result Unit
       → v ≡ Err k
       → TextAnswered r before out (refusal_line (steps_of after) (number k)) (leb (number k) 10)
       → Reported r before out after (record_on_printed t bytes s)
+  unfolding refusal_printed
   reported-refused k {r} {before} {out} e x =
       let both = step-refused k e in
       let x' : TextAnswered r before out (refusal_line (steps_of s) (number k)) (leb (number k) 10) = rw both.0 at x in
-      rw (← both.1) (record { answered = refusal-printed s (number k) x'; left = both.0 ∙ refusal-state s (number k) })
+      rw (← both.1) (record { answered = x'; left = both.0 })
 
--- ---- the counts of a table
+-- ---- the lines of an accepted forecast
 
-module _ (bytes : List ℕ) (counts : Counts) (weights : List ℕ) (p : Weighed bytes counts weights) where
-  pub few-elements : counts.elements ≤ most_elements
-  few-elements = omega (arith, p.counted.counted.held.elements, p.counted.counted.table.bounds.elements_most)
+module _
+    {table : List ℕ} {counts : Counts} {weights : List ℕ} {s : State} {lent : List ℕ} {text : TextSpace} (p : RecordReady table counts weights s lent text)
+    {r : Result ℕ Refusal} {count : ℕ} {space : List ℕ} (h : ForecastHeld r space (table_in table) s) (accepts : r ≡ Ok count) where
+  abbrev t : TableValues
+  t = table_in table
 
-  pub few-leads : counts.leads + 1 ≤ most_leads + 1
-  few-leads = omega (arith, p.counted.counted.held.leads, p.counted.counted.table.bounds.leads_most)
+  abbrev leads : ℕ
+  leads = counts.leads + 1
 
-  pub lines-few : counts.elements * (counts.leads + 1) ≤ most_elements * (most_leads + 1)
-  lines-few = few-lines counts.elements (counts.leads + 1) few-elements few-leads
+  -- as the code takes the numbers out of the space
+  abbrev numbers : List ℕ
+  numbers = take (length space - 4 * leads) (drop (4 * leads) space)
 
-  -- and its lines are those of the table
-  pub counted-lines :
-      (steps : ℕ) (numbers : List ℕ) {before after : TextSpace}
-      → TextPut before (answer_lines steps (counts.leads + 1) numbers counts.elements) after
-      → TextPut before (answer_lines steps ((table_in bytes).leads + 1) numbers (table_in bytes).elements) after
-  counted-lines steps numbers h = text-same (rw (p.counted.counted.held.leads, p.counted.counted.held.elements)) h
+  elements_is : counts.elements ≡ t.elements
+  elements_is = p.weighed.counted.counted.held.elements
 
-  pub counted-under :
-      (numbers : List ℕ)
-      → FiguresUnderCeiling numbers (4 * ((table_in bytes).elements * ((table_in bytes).leads + 1)))
-      → FiguresUnderCeiling numbers (4 * (counts.elements * (counts.leads + 1)))
-  counted-under numbers h = rw (p.counted.counted.held.leads, p.counted.counted.held.elements) h
+  leads-is : leads ≡ t.leads + 1
+  leads-is = ap (λ (k : ℕ). k + 1) p.weighed.counted.counted.held.leads
+
+  few-elements : counts.elements ≤ most_elements
+  few-elements = omega (arith, elements_is, p.weighed.counted.counted.table.bounds.elements_most)
+
+  few-leads : leads ≤ most_leads + 1
+  few-leads = omega (arith, leads-is, p.weighed.counted.counted.table.bounds.leads_most)
+
+  lines-few : counts.elements * leads ≤ most_elements * (most_leads + 1)
+  lines-few = few-lines counts.elements leads few-elements few-leads
+
+  shown : ForecastShown t s numbers
+  shown = forecast-shown t s p.state_kept r space h numbers accepts (rest_of space (4 * leads) (4 * (t.leads + 1)) (ap (λ (k : ℕ). 4 * k) leads-is))
+
+  pub lines-ready : length space ≡ length lent → LinesReady text numbers counts.elements leads
+  lines-ready size =
+      record {
+        room = omega (arith, lines-few, p.room);
+        there = part_room space counts.elements leads few-leads lines-few (size ∙ p.space_full);
+        elements_few = few-elements;
+        leads_few = omega (arith, few-leads);
+        under = rw (leads-is, elements_is) (shown-under t s numbers shown);
+      }
+
+  pub lines-printed :
+      {after : TextSpace}
+      → TextPut text (answer_lines (steps_of s) leads numbers counts.elements) after
+      → after.at ≤ text.at + 147 * (counts.elements * leads)
+      → TextAnsweredOf false text after (forecast_printed t s (forecast_on_answer t s answer_numbers))
+  unfolding forecast_printed figures_lines
+  lines-printed put few =
+      let behind = drop (length (layout shown.figures)) numbers in
+      let same = lines-before (steps_of s) (t.leads + 1) t.elements (layout shown.figures) behind (omega (arith, shown.counted)) in
+      rw shown.answered
+      (record {
+        text =
+            text-same (rw (leads-is, elements_is) (ap (λ (l : List ℕ). answer_lines (steps_of s) (t.leads + 1) l t.elements) (sym shown.shown) ∙ same)) put;
+        ended = refl;
+        within = omega (arith, few, lines-few);
+      })
 
 -- ---- what a record leaves
 
