@@ -93,6 +93,14 @@ module _ (t : TableValues) (bytes : List ℕ) (s after : State) (v : Result Unit
 
 -- ---- the lines of an accepted forecast
 
+-- by the counts of a table, and by what it says
+module _ (numbers : List ℕ) {n m l k : ℕ} (elements : n ≡ m) (leads : l ≡ k) where
+  under-by : FiguresUnderCeiling numbers (4 * (m * k)) → FiguresUnderCeiling numbers (4 * (n * l))
+  under-by h = rw (elements, leads) h
+
+  lines-by : (steps : ℕ) → answer_lines steps l numbers n ≡ answer_lines steps k numbers m
+  lines-by steps = rw (elements, leads)
+
 module _
     {table : List ℕ} {counts : Counts} {weights : List ℕ} {s : State} {lent : List ℕ} {text : TextSpace} (p : RecordReady table counts weights s lent text)
     {r : Result ℕ Refusal} {count : ℕ} {space : List ℕ} (h : ForecastHeld r space (table_in table) s) (accepts : r ≡ Ok count) where
@@ -131,7 +139,7 @@ module _
         there = part_room space counts.elements leads few-leads lines-few (size ∙ p.space_full);
         elements_few = few-elements;
         leads_few = omega (arith, few-leads);
-        under = rw (leads-is, elements_is) (shown-under t s numbers shown);
+        under = under-by numbers elements_is leads-is (shown-under t s numbers shown);
       }
 
   pub lines-printed :
@@ -146,7 +154,9 @@ module _
       rw shown.answered
       (record {
         text =
-            text-same (rw (leads-is, elements_is) (ap (λ (l : List ℕ). answer_lines (steps_of s) (t.leads + 1) l t.elements) (sym shown.shown) ∙ same)) put;
+            text-same
+            (lines-by numbers elements_is leads-is (steps_of s)
+            ∙ (ap (λ (l : List ℕ). answer_lines (steps_of s) (t.leads + 1) l t.elements) (sym shown.shown) ∙ same)) put;
         ended = refl;
         within = omega (arith, few, lines-few);
       })
