@@ -4,11 +4,11 @@ use Prim.{Unit}
 use Prim.Native.Nat.{ℕ, ◌+◌, ◌*◌, ◌-◌, ◌≤◌}
 use mathlib.Core.Bool.{Bool, true, false}
 use mathlib.Core.List.{List}
-use mathlib.Core.Path.{◌≡◌, refl, sym, ap, subst, fun_ext, ◌∙◌}
+use mathlib.Core.Path.{◌≡◌, refl, sym, ap, fun_ext, ◌∙◌}
 use native.Mathlib.Omega.{arith}
 use lib.Dec.{leb}
 use lib.ListN.{length, take, drop}
-use Rattle.sizes.specs.Sizes.{most_elements, most_leads, state_numbers, answer_numbers, text_bytes}
+use Rattle.sizes.specs.Sizes.{most_elements, most_leads, state_numbers, answer_numbers}
 use Rattle.refusal.specs.Refusals.{number}
 use Rattle.refusal.specs.Answers.{Answer, accepted, refused}
 use Rattle.refusal.specs.declared.Refusal.{Refusal}
@@ -24,7 +24,6 @@ use Rattle.state.specs.Rules.{state_fits}
 use Rattle.state.specs.Answers.{state_after, Answered}
 use Rattle.state.proofs.AnswerLaws.{answered-next, answered-not}
 use Rattle.table.specs.declared.Counts.{Counts}
-use Rattle.element_weights.specs.Weights.{Weighed}
 use Rattle.network.specs.Lent.{layout}
 use Rattle.entries.specs.Entries.{step_answer, step_on_answer, forecast_answer, forecast_on_answer}
 use Rattle.entries.proofs.NextLaws.{next_fits, next-length}
@@ -35,7 +34,7 @@ use Rattle.lines.specs.Ceiling.{FiguresUnderCeiling}
 use Rattle.lines.specs.Printed.{answer_lines, refusal_line}
 use Rattle.lines.proofs.PrintedLaws.{lines-before}
 use Rattle.refusal_answer.specs.Answers.{TextAnswered}
-use Rattle.program.specs.Records.{Printed, figures_lines, refusal_printed, forecast_printed, step_printed, record_printed, record_on_printed}
+use Rattle.program.specs.Records.{figures_lines, refusal_printed, forecast_printed, step_printed, record_printed, record_on_printed}
 use Rattle.report.specs.Answers.{RecordReady, TextAnsweredOf, Reported}
 use Rattle.report.proofs.FiguresLaws.{ForecastShown, forecast-shown, shown-under, rest_of, part_room, few-lines}
 use Rattle.leads.specs.Held.{ForecastHeld}
