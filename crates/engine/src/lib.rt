@@ -11,6 +11,7 @@ ghost use Rattle.entries.specs.Entries.{start_answer, step_on_answer, step_answe
 use record_step::step_from;
 use refusal::Refusal;
 use sizes::STATE_NUMBERS;
+use state_rules::judge_state;
 use table::Counts;
 
 // Starts a river on the bytes of a table, from any state: rules 1 to 7.
@@ -32,12 +33,7 @@ fn step_counted(
     requires { CountedPlaces table.now counts }
     ensures { Answered result state.new (step_on_answer (table_in table.now) bytes.now state.old) state.old }
 {
-    if !state_rules::state_fits(table, counts.elements, &*state) {
-        return Err(Refusal::StateRange);
-    }
-    if !state_rules::tanks_fit(counts.elements, counts.extra, &*state) {
-        return Err(Refusal::StateRange);
-    }
+    judge_state(table, counts.elements, counts.extra, &*state)?;
     step_from(table, counts, bytes, state)
 }
 
@@ -59,17 +55,16 @@ fn forecast_counted(
     requires { CountedPlaces table.now counts }
     ensures { Lent result out.new (forecast_on_answer (table_in table.now) state.now (length out.old)) out.old }
 {
-    if !state_rules::state_fits(table, counts.elements, state) {
-        return Err(Refusal::StateRange);
-    }
-    if !state_rules::tanks_fit(counts.elements, counts.extra, state) {
-        return Err(Refusal::StateRange);
-    }
+    judge_state(table, counts.elements, counts.extra, state)?;
     leads::forecast_on(table, counts, state, out)
 }
 
 // A forecast on the bytes of a table into lent space: rules 1 to 8, 15 and 16.
-pub fn forecast(table: &[u8], state: &[u64; STATE_NUMBERS], out: &mut [u64]) -> Result<usize, Refusal>
+pub fn forecast(
+    table: &[u8],
+    state: &[u64; STATE_NUMBERS],
+    out: &mut [u64],
+) -> Result<usize, Refusal>
     ensures { Lent result out.new (forecast_answer table.now state.now (length out.old)) out.old }
 {
     let counts = table_reader::read(table)?;

@@ -43,8 +43,11 @@ use Rattle.next_state.proofs.WriteLaws.{tanks-steps, written-in-parts}
 use Rattle.record_step.specs.Judged.{RiverGiven, StepJudged, worked_answer, RecordGiven, RecordWorked, WriteGiven}
 
 -- a refusal that is passed on
+pub err-passed : {A : Type 0} (r : Result A Refusal) (k : Refusal) → IsErrAnd r (λ (e : Refusal). e ≡ k) → r ≡ Err k
+err-passed r k p = let q = err_from_is_err_and r p in q.1 ∙ ap Err q.2
+
 pub passed-as : {A : Type 0} (v s : Result A Refusal) (k : Refusal) → v ≡ Err k → IsErrAnd s (λ (e : Refusal). e ≡ k) → v ≡ s
-passed-as v s k e p = let q = err_from_is_err_and s p in e ∙ sym (q.1 ∙ ap Err q.2)
+passed-as v s k e p = e ∙ sym (err-passed s k p)
 
 -- ---- the rules before 15 and 16
 

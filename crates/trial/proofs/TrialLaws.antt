@@ -1,9 +1,9 @@
 -- The figures of a trial: those that the step would leave, copied out of the working space; its rules in checking order.
 use Prim.{Unit}
-use Rattle.std.specs.Prelude.{Result, Ok, Err}
-use Rattle.refusal.specs.Answers.{answer_of}
+use Rattle.std.specs.Prelude.{Result, Ok, Err, IsErrAnd}
+use Rattle.refusal.specs.Answers.{accepted, rule, answer_of}
+use Rattle.state_rules.proofs.JudgedLaws.{judged-refused}
 use Prim.Native.Nat.{ℕ, zero, suc, ◌+◌, ◌*◌, ◌≤◌, ◌<◌}
-use mathlib.Core.Bool.{false}
 use mathlib.Core.List.{List}
 use mathlib.Core.Path.{◌≡◌, refl, sym, ap, ◌∙◌}
 use native.Mathlib.Nat.{mul-one}
@@ -12,7 +12,6 @@ use lib.ListN.{length, take, drop, length-drop}
 use lib.Seq.{paste}
 use Rattle.sizes.specs.Sizes.{most_elements, most_places}
 use Rattle.refusal.specs.declared.Refusal.{Refusal}
-use Rattle.refusal.specs.declared.Refusal.TheVariants.{StateRange}
 use Rattle.table.specs.Tables.{TableValues}
 use Rattle.table.specs.KindCounts.{extra_count}
 use Rattle.table.specs.InUse.{table_in}
@@ -34,7 +33,7 @@ use Rattle.leads.proofs.LayoutLaws.{figures-after, answer-laid}
 use Rattle.entries.specs.Entries.{step_rules}
 use Rattle.entries.specs.Trials.{state_figures, tried_answer}
 use Rattle.record_step.specs.Judged.{worked_answer, RiverGiven, RecordWorked}
-use Rattle.record_step.proofs.StepLaws.{worked-accepted, worked-refused}
+use Rattle.record_step.proofs.StepLaws.{err-passed, worked-accepted, worked-refused}
 use Rattle.trial.specs.Held.{TrialHeld}
 
 -- so many tanks above the last of their elements
@@ -60,9 +59,16 @@ module _ (table bytes : List ℕ) (s : State) where
   next = stepped t (input_at (cells t) bytes) s
 
   -- 8
-  pub state-refused : (out : List ℕ) → state_fits t s ≡ false → TrialHeld (Err StateRange) out table bytes s out
+  pub state-refused :
+      (out : List ℕ) (v : Result Unit Refusal) (r : Result ℕ Refusal) (k : Refusal)
+      → answer_of v ≡ rule {A = Unit} 8 (state_fits t s) (accepted tt)
+      → v ≡ Err k
+      → IsErrAnd r (λ (e : Refusal). e ≡ k)
+      → TrialHeld r out table bytes s out
   unfolding step_rules
-  state-refused out h = lent-refused out _ StateRange (rw h)
+  state-refused out v r k h e p =
+      let j = judged-refused t s (sym (ap answer_of e) ∙ h) in
+      rw (err-passed r k p) (lent-refused out _ k (rw (j.0, j.1)))
 
   -- the other rules are the step's, with 15
   tried-as : (room : ℕ) → step_rules t bytes s (tried_answer t bytes s room) ≡ worked_answer t bytes s room (state_figures t next)
@@ -113,13 +119,13 @@ module _ (table bytes : List ℕ) (s : State) where
           layout-size (laid (w.held e)) is a is
 
   -- the answer by what was worked out
-  module _ {n extra basins dams : ℕ} (g : RiverGiven table n extra basins dams s) {v : Result Unit Refusal} {space out : List ℕ}
+  module _ {n extra basins dams : ℕ} (g : RiverGiven table n extra basins dams s) (out : List ℕ) {v : Result Unit Refusal} {space : List ℕ}
       (w : RecordWorked v space t bytes s (length out)) where
     pub figures-ready : 4 * (n + 1) ≤ length space → v ≡ Ok tt → (n ≤ most_elements) × ((4 * (n + 1) ≤ length space) × (4 * n ≤ length out))
     figures-ready room e = (omega (arith, g.elements, g.accepts.bounds.elements_most), (room, omega (arith, w.enough e, g.elements)))
 
-    pub trial-refused : {k : Refusal} → v ≡ Err k → TrialHeld (Err k) out table bytes s out
-    trial-refused {k} e = rules-refused out w k e
+    pub trial-refused : (r : Result ℕ Refusal) (k : Refusal) → v ≡ Err k → IsErrAnd r (λ (e : Refusal). e ≡ k) → TrialHeld r out table bytes s out
+    trial-refused r k e p = rw (err-passed r k p) (rules-refused out w k e)
 
     pub trial-accepted : {after : List ℕ} → 4 * (n + 1) ≤ length space → v ≡ Ok tt → after ≡ paste out 0 (drop 4 space) (4 * n) → TrialHeld (Ok (4 * n)) after table bytes s out
     trial-accepted room e a =

@@ -13,7 +13,12 @@ ghost use Rattle.trial.specs.Held.{TrialHeld};
 use answer_space::write_figures;
 use record_step::work_record;
 use refusal::Refusal;
-use sizes::{MEDIUM_PLACES, MEDIUM_STEP_SPACE, MIDDLE_ELEMENTS, MIDDLE_STEP_SPACE, MOST_ELEMENTS, OBSERVED_NUMBERS, SMALL_ELEMENTS, SMALL_OBSERVED_NUMBERS, SMALL_STEP_SPACE, STATE_NUMBERS, STEP_SPACE};
+use sizes::{
+    MEDIUM_PLACES, MEDIUM_STEP_SPACE, MIDDLE_ELEMENTS, MIDDLE_STEP_SPACE, MOST_ELEMENTS,
+    OBSERVED_NUMBERS, SMALL_ELEMENTS, SMALL_OBSERVED_NUMBERS, SMALL_STEP_SPACE, STATE_NUMBERS,
+    STEP_SPACE,
+};
+use state_rules::judge_state;
 use table::Counts;
 
 // A trial that rule 8 accepts, in a working space of its own: E weights, so many numbers for what the gauges observe, and so many to work in.
@@ -61,7 +66,9 @@ fn trial_in_largest_space(
     requires { RiverGiven table.now n (extra_count (table_in table.now)) basins dams state.now }
     ensures { TrialHeld result out.new table.now bytes.now state.now out.old }
 {
-    trial_in_space::<MOST_ELEMENTS, OBSERVED_NUMBERS, STEP_SPACE>(table, n, basins, dams, bytes, state, out)
+    trial_in_space::<MOST_ELEMENTS, OBSERVED_NUMBERS, STEP_SPACE>(
+        table, n, basins, dams, bytes, state, out,
+    )
 }
 
 // A trial on an accepted table: rules 8 to 18.
@@ -79,20 +86,21 @@ fn trial_counted(
     let basins = counts.basins;
     let dams = counts.dams;
     let places = n + counts.extra;
-    if !state_rules::state_fits(table, n, state) {
-        return Err(Refusal::StateRange);
-    }
-    if !state_rules::tanks_fit(n, counts.extra, state) {
-        return Err(Refusal::StateRange);
-    }
+    judge_state(table, n, counts.extra, state)?;
     if places <= SMALL_ELEMENTS {
-        return trial_in_space::<SMALL_ELEMENTS, SMALL_OBSERVED_NUMBERS, SMALL_STEP_SPACE>(table, n, basins, dams, bytes, state, out);
+        return trial_in_space::<SMALL_ELEMENTS, SMALL_OBSERVED_NUMBERS, SMALL_STEP_SPACE>(
+            table, n, basins, dams, bytes, state, out,
+        );
     }
     if places <= MIDDLE_ELEMENTS {
-        return trial_in_space::<MIDDLE_ELEMENTS, OBSERVED_NUMBERS, MIDDLE_STEP_SPACE>(table, n, basins, dams, bytes, state, out);
+        return trial_in_space::<MIDDLE_ELEMENTS, OBSERVED_NUMBERS, MIDDLE_STEP_SPACE>(
+            table, n, basins, dams, bytes, state, out,
+        );
     }
     if places <= MEDIUM_PLACES {
-        return trial_in_space::<MOST_ELEMENTS, OBSERVED_NUMBERS, MEDIUM_STEP_SPACE>(table, n, basins, dams, bytes, state, out);
+        return trial_in_space::<MOST_ELEMENTS, OBSERVED_NUMBERS, MEDIUM_STEP_SPACE>(
+            table, n, basins, dams, bytes, state, out,
+        );
     }
     trial_in_largest_space(table, n, basins, dams, bytes, state, out)
 }

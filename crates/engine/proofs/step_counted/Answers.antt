@@ -1,32 +1,13 @@
 -- `step_counted` meets its contract.
-use mathlib.Core.Bool.{true}
-use mathlib.Core.Path.{◌≡◌, refl, sym, ◌∙◌}
-use Rattle.table.specs.InUse.{table_in}
-use Rattle.state.specs.Rules.{elements_fit}
-use Rattle.state.proofs.StateLaws.{elements-refused}
-use Rattle.state.proofs.AnswerLaws.{answered-refused}
-use Rattle.record_step.proofs.StepLaws.{tanks-above, both-fit, places-few}
-use Rattle.engine.proofs.EntryLaws.{state-refused}
+use Rattle.engine.proofs.EntryLaws.{step-refused, judged-accepted}
 use Rattle.engine.proofs.step_counted.Goals as goal
 
-elements : (e : goal.After-step_from-arg-1) → elements_fit (table_in e.args.table.now) e.args.state.now ≡ true
-elements e = sym e.state_fits.ensures ∙ e.if-not-state_fits.false
+pub judge_state-requires : goal.judge_state-requires
+judge_state-requires c = let p = c.requires.counted in (p.table, (p.held.elements, c.requires.extra))
 
-pub state_fits-requires : goal.state_fits-requires
-state_fits-requires c = let p = c.requires.counted in (p.table, p.held.elements)
-
-pub returns-then-not-state_fits : goal.returns-then-not-state_fits
-returns-then-not-state_fits c =
-    answered-refused refl (state-refused _ _ _ (elements-refused _ _ (sym c.state_fits.ensures ∙ c.if-not-state_fits.true))) refl
-
-pub tanks_fit-requires : goal.tanks_fit-requires
-tanks_fit-requires c = places-few c.requires
-
-pub returns-then-not-tanks_fit : goal.returns-then-not-tanks_fit
-returns-then-not-tanks_fit c =
-    let p = c.requires in
-    answered-refused refl (state-refused _ _ _ (tanks-above _ p c.tanks_fit.ensures (c.if-not-tanks_fit.true))) refl
+pub returns-in_err-judge_state : goal.returns-in_err-judge_state
+returns-in_err-judge_state c =
+    step-refused _ _ _ _ c.judge_state.ensures _ _ c.in_err-judge_state.was c.from_residual.ensures.1
 
 pub step_from-requires : goal.step_from-requires
-step_from-requires c =
-    let p = c.requires in (p, both-fit _ p c.tanks_fit.ensures (elements c) (c.if-not-tanks_fit.false))
+step_from-requires c = (c.requires, judged-accepted _ _ c.judge_state.ensures c.in_ok-judge_state.was)
