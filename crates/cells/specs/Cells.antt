@@ -32,33 +32,11 @@ element_of t c = element_among t t.elements c
 
 -- a tank: a reach "with the element's lag"; "Each starts from the element's first values, W is added in every tank"
 unfoldable pub tank_of : Element → ℕ → Element
-tank_of e down =
-    record {
-      kind = reach;
-      down = down;
-      lag = e.lag;
-      area = 0;
-      runoff = 0;
-      first_discharge = e.first_discharge;
-      first_variance = e.first_variance;
-      system_noise = e.system_noise;
-      rain_noise = thousandths 0;
-    }
+tank_of e down = record e { kind = reach; down = down; area = 0; runoff = 0; rain_noise = thousandths 0 }
 
 -- an element that is one cell
 unfoldable pub draining_into : Element → ℕ → Element
-draining_into e down =
-    record {
-      kind = e.kind;
-      down = down;
-      lag = e.lag;
-      area = e.area;
-      runoff = e.runoff;
-      first_discharge = e.first_discharge;
-      first_variance = e.first_variance;
-      system_noise = e.system_noise;
-      rain_noise = e.rain_noise;
-    }
+draining_into e down = record e { down = down }
 
 -- the number of the cell that water draining into element number d comes to: its first; 0 for an outlet
 unfoldable pub inlet_of : TableValues → ℕ → ℕ
@@ -76,17 +54,13 @@ cell_at t c =
 
 -- "a gauge corrects the last"
 unfoldable pub gauge_of : TableValues → Gauge → Gauge
-gauge_of t g =
-    record { element = last_cell t (g.element - 1) + 1; noise = g.noise; beta = g.beta; curve = g.curve }
+gauge_of t g = record g { element = last_cell t (g.element - 1) + 1 }
 
 -- the river's cells, as a table of basins, reaches and dams
 unfoldable pub cells : TableValues → TableValues
 cells t =
-    record {
-      step = t.step;
-      leads = t.leads;
+    record t {
       elements = t.elements + extra_count t;
-      gauges = t.gauges;
       element = below (t.elements + extra_count t) no_element (cell_at t);
       gauge = λ g. gauge_of t (t.gauge g);
     }

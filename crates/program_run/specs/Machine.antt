@@ -72,65 +72,27 @@ next h = cond (text_due h) (write h.text) (cond (ended h) end (cond (wants_more 
 -- ---- what it leaves
 
 unfoldable pub written : Held → Held
-written h =
-    record {
-      judged = h.judged;
-      unused = h.unused;
-      over = h.over;
-      left = h.left;
-      table = h.table;
-      state = h.state;
-      text = [];
-    }
+written h = record h { text = [] }
 
 -- the table is answered: the records after it are left, or nothing after its refusal
 unfoldable pub table_answered : Held → Answer State → Held
 table_answered h (accepted s) =
-    record {
-      judged = true;
-      unused = drop (number32 h.unused 0 + 4) h.unused;
-      over = h.over;
-      left = h.left;
-      table = table_part h.unused;
-      state = s;
-      text = h.text;
-    }
-table_answered h (refused n) =
-    record {
-      judged = true;
-      unused = h.unused;
-      over = h.over;
-      left = 0;
-      table = h.table;
-      state = h.state;
-      text = h.text ++ refusal_line 0 n;
-    }
+    record h { judged = true; unused = drop (number32 h.unused 0 + 4) h.unused; table = table_part h.unused; state = s }
+table_answered h (refused n) = record h { judged = true; left = 0; text = h.text ++ refusal_line 0 n }
 
 -- a record is answered: one less is left, or none
 unfoldable pub record_answered : Held → Printed → Held
 record_answered h p =
-    record {
-      judged = h.judged;
+    record h {
       unused = rest_after h.unused;
-      over = h.over;
       left = cond p.ended 0 (h.left - 1);
-      table = h.table;
       state = p.state;
       text = h.text ++ p.text;
     }
 
 -- "input that stops before a record's first byte ends the run with nothing more printed"
 unfoldable pub stopped : Held → Held
-stopped h =
-    record {
-      judged = h.judged;
-      unused = h.unused;
-      over = h.over;
-      left = 0;
-      table = h.table;
-      state = h.state;
-      text = h.text;
-    }
+stopped h = record h { left = 0 }
 
 unfoldable pub records_answered : Held → List ℕ → Held
 records_answered h [] = stopped h
@@ -149,25 +111,7 @@ after_next answer h = answered h
 -- ---- what input adds
 
 unfoldable pub given : Held → List ℕ → Held
-given h piece =
-    record {
-      judged = h.judged;
-      unused = h.unused ++ piece;
-      over = h.over;
-      left = h.left;
-      table = h.table;
-      state = h.state;
-      text = h.text;
-    }
+given h piece = record h { unused = h.unused ++ piece }
 
 unfoldable pub closed : Held → Held
-closed h =
-    record {
-      judged = h.judged;
-      unused = h.unused;
-      over = true;
-      left = h.left;
-      table = h.table;
-      state = h.state;
-      text = h.text;
-    }
+closed h = record h { over = true }

@@ -9,15 +9,7 @@ unfoldable pub below : {A : Type 0} → ℕ → A → (ℕ → A) → ℕ → A
 below n none f i = cond (ltb i n) (f i) none
 
 unfoldable pub in_use : TableValues → TableValues
-in_use t =
-    record {
-      step = t.step;
-      leads = t.leads;
-      elements = t.elements;
-      gauges = t.gauges;
-      element = below t.elements no_element t.element;
-      gauge = below t.gauges no_gauge t.gauge;
-    }
+in_use t = record t { element = below t.elements no_element t.element; gauge = below t.gauges no_gauge t.gauge }
 
 -- what a table's bytes say of the places in use
 unfoldable pub table_in : List ℕ → TableValues
