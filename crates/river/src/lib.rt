@@ -116,6 +116,7 @@ impl From<CurveLook> for Rating {
 impl From<Result<Shown, Refusal>> for Display {
     ghost from_gives = { λ answer display. display ≡ display_reply (answer_of answer) };
 
+    #[tactic(auto, unfolding(crate::specs::Replies::display_reply))]
     fn from(answer: Result<Shown, Refusal>) -> Self {
         match answer {
             Ok(shown) => Display {
