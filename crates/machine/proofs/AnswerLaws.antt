@@ -1,13 +1,13 @@
 -- Laws of the table and of a record, answered where they lie in the program's buffers.
 use Rattle.std.specs.Prelude.{Result, Ok, Err}
-use Prim.Native.Nat.{ℕ, zero, suc, ◌+◌, ◌-◌, ◌≤◌, ◌<◌}
+use Prim.Native.Nat.{ℕ, zero, suc, ◌-◌, ◌≤◌, ◌<◌}
 use mathlib.Core.Bool.{Bool, true, false}
 use mathlib.Core.List.{List, [], ◌∷◌, ◌++◌}
 use mathlib.Core.Path.{◌≡◌, refl, sym, ap, subst, ◌∙◌}
 use native.Mathlib.Omega.{arith}
 use lib.Dec.{leb}
-use lib.ListN.{length, take, drop, length-take, length-drop}
-use lib.Seq.{length-take-le}
+use lib.ListN.{length, take, drop, length-append, length-take, length-drop}
+use lib.Seq.{length-take-le, take_at}
 use Rattle.sizes.specs.Sizes.{state_numbers}
 use Rattle.refusal.specs.Refusals.{number}
 use Rattle.refusal.specs.declared.Refusal.{Refusal}
@@ -113,15 +113,27 @@ module _
   table-room counts e =
       omega (arith, started-input-short _ _ _ _ _ _ f.sizes.state_whole (started-as (Ok counts) e) o.within, f.sizes.table_whole)
 
+  pub copy-room :
+      (counts : Counts)
+      → t.counts ≡ Ok counts
+      → (t.length ≡ length (take t.length table)) × (length (take t.length table) ≡ length (take t.length (unused_in p input)))
+  copy-room counts e =
+      let kept = length-take-le t.length table (table-room counts e) in
+      (sym kept, kept ∙ sym (length-take-le t.length (unused_in p input) o.within))
+
   pub table-accepted :
       (counts : Counts)
       → t.counts ≡ Ok counts
-      → (kept : List ℕ)
-      → take t.length kept ≡ take t.length (unused_in p input)
-      → length kept ≡ length table
-      → HeldAnswered (held_in p input table state out) (after_table p counts t.length) input kept later after out
+      → (copy : List ℕ)
+      → copy ≡ take t.length (unused_in p input)
+      → HeldAnswered (held_in p input table state out) (after_table p counts t.length) input (copy ++ drop t.length table) later after out
   unfolding held_in table_answered
-  table-accepted counts e kept bytes same =
+  table-accepted counts e copy is =
+      let whole : length copy ≡ t.length = ap length is ∙ length-take-le t.length (unused_in p input) o.within in
+      let bytes : take t.length (copy ++ drop t.length table) ≡ take t.length (unused_in p input) =
+      take_at copy (drop t.length table) t.length whole ∙ is in
+      let same : length (copy ++ drop t.length table) ≡ length table =
+      omega (arith, length-append copy (drop t.length table), length-drop t.length table, whole, table-room counts e) in
       let a = started-as (Ok counts) e in
       let s = f.sizes.state_whole in
       let rest = window-later p.from p.have t.length input ∙ a.rest in

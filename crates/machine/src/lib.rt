@@ -6,7 +6,10 @@ ghost use Rattle.machine.specs.Buffers.{BuffersFit, WorkingSpace, TableDue, Reco
 ghost use Rattle.machine.specs.Turns.{HeldAnswered, Turned};
 
 use input_parts::{record_length, wants_more};
-use progress::{Progress, after_record, after_refusal, after_stop, after_table, after_write, has_ended, moved_front, text_due};
+use progress::{
+    Progress, after_record, after_refusal, after_stop, after_table, after_write, has_ended,
+    moved_front, text_due,
+};
 use refusal_answer::answer_refusal;
 use report::answer_record;
 use sizes::STATE_NUMBERS;

@@ -5,7 +5,7 @@ use Rattle.machine.proofs.proceed.Goals as goal
 pub returns-then-text_due : goal.returns-then-text_due
 returns-then-text_due c =
     turn-write _ _ _ _ _ _ c.requires.0 _ _ _ c.wants_more-wants.ensures c.has_ended-ended.ensures c.text_due.ensures _
-    c.if-text_due.true c.after_write-progress.ensures
+    c.if-text_due.true c.after_write.ensures
 
 pub returns-then-ended : goal.returns-then-ended
 returns-then-ended c =
@@ -17,8 +17,8 @@ returns-then-wants c =
     turn-read _ _ _ _ _ _ c.requires.0 _ _ _ c.wants_more-wants.ensures c.has_ended-ended.ensures c.text_due.ensures _ _
     c.if-text_due.false c.if-ended.false c.if-wants.true c.moved_front-progress.ensures c.moved_front-progress.auto.input
 
-pub answered-progress-requires : goal.answered-progress-requires
-answered-progress-requires c = (
+pub answered-requires : goal.answered-requires
+answered-requires c = (
   c.requires.0,
   (
     c.requires.1,
@@ -30,4 +30,4 @@ answered-progress-requires c = (
 pub returns : goal.returns
 returns c =
     turn-answer _ _ _ _ _ _ c.requires.0 _ _ _ c.wants_more-wants.ensures c.has_ended-ended.ensures c.text_due.ensures _ _ _ _ _ _
-    c.if-text_due.false c.if-ended.false c.if-wants.false c.answered-progress.ensures
+    c.if-text_due.false c.if-ended.false c.if-wants.false c.answered.ensures

@@ -1,25 +1,29 @@
 -- `table_answered` meets its contract.
-use mathlib.Core.Path.{sym}
-use lib.Seq.{length-take-le}
-use Rattle.machine.proofs.AnswerLaws.{answered-as, table-room, table-accepted, table-refused}
+use mathlib.Core.Path.{refl}
+use Rattle.std.proofs.Common.{rules}
+use Rattle.machine.proofs.AnswerLaws.{answered-as, table-room, copy-room, table-accepted, table-refused}
 use Rattle.machine.proofs.table_answered.Goals as goal
 
-pub slice_bounds-put_bytes-end : goal.slice_bounds-put_bytes-end
-slice_bounds-put_bytes-end c = sym (length-take-le _ _ c.started_on_input-started.ensures.within)
+pub slice_bounds-copy_from_slice-end : goal.slice_bounds-copy_from_slice-end
+slice_bounds-copy_from_slice-end c =
+    table-room _ _ _ _ _ _ c.requires.0 c.requires.1 _ _ _ c.started_on_input-started.ensures c.started_on_input-started.auto.weights _ c.in-Ok.is
 
-pub put_bytes-requires : goal.put_bytes-requires
-put_bytes-requires c =
-    table-room _ _ _ _ _ _ c.requires.0 c.requires.1 _ _ _ c.started_on_input-started.ensures c.started_on_input-started.auto.weights
-    c.in-Accepted.is
+pub slice_bounds-copy_from_slice-end-in-Ok : goal.slice_bounds-copy_from_slice-end-in-Ok
+slice_bounds-copy_from_slice-end-in-Ok c =
+    (copy-room _ _ _ _ _ _ c.requires.0 c.requires.1 _ _ _ c.started_on_input-started.ensures c.started_on_input-started.auto.weights _ c.in-Ok.is).0
 
-pub returns-in-Accepted : goal.returns-in-Accepted
-returns-in-Accepted c =
+pub copy_from_slice-requires : goal.copy_from_slice-requires
+copy_from_slice-requires c =
+    (copy-room _ _ _ _ _ _ c.requires.0 c.requires.1 _ _ _ c.started_on_input-started.ensures c.started_on_input-started.auto.weights _ c.in-Ok.is).1
+
+pub returns-in-Ok : goal.returns-in-Ok
+returns-in-Ok c =
     answered-as c.after_table.ensures
     (table-accepted _ _ _ _ _ _ c.requires.0 c.requires.1 _ _ _ c.started_on_input-started.ensures c.started_on_input-started.auto.weights
-    c.in-Accepted.is _ _ c.put_bytes.ensures c.put_bytes.auto.out)
+    _ c.in-Ok.is _ c.copy_from_slice.ensures.after)
 
-pub returns-in-Refused : goal.returns-in-Refused
-returns-in-Refused c =
+pub returns-in-Err : goal.returns-in-Err
+returns-in-Err c =
     answered-as c.after_refusal.ensures
-    (table-refused _ _ _ _ _ _ c.requires.0 c.requires.1 _ _ _ c.started_on_input-started.ensures c.started_on_input-started.auto.weights _ _
-    c.in-Refused.is c.answer_refusal-answer.ensures c.answer_refusal-answer.auto.out)
+    (table-refused _ _ _ _ _ _ c.requires.0 c.requires.1 _ _ _ c.started_on_input-started.ensures c.started_on_input-started.auto.weights
+    _ c.in-Err.is c.answer_refusal.ensures refl refl (search rules))
