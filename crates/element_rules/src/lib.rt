@@ -14,50 +14,35 @@ use units::{Discharge, Variance};
 fn lag_fits(step: u64, e: Element) -> bool
     ensures { result ≡ lag_fits step e }
 {
-    if e.lag < step {
-        return false;
-    }
-    e.lag <= 60_000
+    in_range(e.lag, step, 60_000)
 }
 
 #[tactic(auto, unfolding(elements::specs::Rules::basin_fits))]
 fn basin_fits(e: Element) -> bool
     ensures { result ≡ basin_fits e }
 {
-    let noise = e.rain_noise;
-    if !in_range(e.area, 1, 400_000) {
-        return false;
-    }
-    if 1_000 < e.runoff {
-        return false;
-    }
-    noise.0 <= 100_000_000
+    in_range(e.area, 1, 400_000) && e.runoff <= 1_000 && e.rain_noise.0 <= 100_000_000
 }
 
 #[tactic(auto, unfolding(elements::specs::Rules::reach_fits))]
 fn reach_fits(e: Element) -> bool
     ensures { result ≡ reach_fits e }
 {
-    let noise = e.rain_noise;
-    (e.area == 0) & (e.runoff == 0) & (noise.0 == 0)
+    (e.area == 0) & (e.runoff == 0) & (e.rain_noise.0 == 0)
 }
 
 #[tactic(auto, unfolding(elements::specs::Rules::tanks_fit))]
 fn tanks_fit(e: Element) -> bool
     ensures { result ≡ tanks_fit e }
 {
-    let noise = e.rain_noise;
-    (e.area == 0) & in_range(e.runoff, 2, 8) & (noise.0 == 0)
+    (e.area == 0) & in_range(e.runoff, 2, 8) & (e.rain_noise.0 == 0)
 }
 
 #[tactic(auto, unfolding(elements::specs::Rules::dam_fits))]
 fn dam_fits(e: Element) -> bool
     ensures { result ≡ dam_fits e }
 {
-    if e.lag != 0 {
-        return false;
-    }
-    reach_fits(e)
+    e.lag == 0 && reach_fits(e)
 }
 
 // The kind chooses the ranges of lag, area, runoff and rain noise.
@@ -79,20 +64,9 @@ fn kind_fits(step: u64, e: Element) -> bool
 pub fn judge_element(step: u64, e: Element) -> Option<Kind>
     ensures { result ≡ judged step e }
 {
-    let q = e.first_discharge;
-    let v = e.first_variance;
-    let w = e.system_noise;
-    if Discharge::CEILING < q.0 {
-        return None;
-    }
-    if Variance::CEILING < v.0 {
-        return None;
-    }
-    if 100_000_000 < w.0 {
-        return None;
-    }
-    if !kind_fits(step, e) {
-        return None;
-    }
-    e.kind
+    let fits = e.first_discharge.0 <= Discharge::CEILING
+        && e.first_variance.0 <= Variance::CEILING
+        && e.system_noise.0 <= 100_000_000
+        && kind_fits(step, e);
+    if fits { e.kind } else { None }
 }
