@@ -1,5 +1,4 @@
 -- Laws of the gauges: what rule 7 asks and what it lets callers rely on.
-use Rattle.rating.specs.declared.RatedReading.{RatedReading}
 use Prim.Native.Nat.{ℕ, zero, suc, ◌+◌, ◌-◌, ◌*◌, ◌≤◌, ◌<◌}
 use mathlib.Core.Bool.{true, ◌&&◌}
 use mathlib.Core.List.{List}
@@ -25,6 +24,7 @@ use Rattle.rating.specs.declared.Offset.{Offset}
 use Rattle.rating.specs.declared.Offset.TheVariants.{Plus, Minus}
 use Rattle.rating.specs.declared.Piece.{Piece}
 use Rattle.rating.specs.declared.Curve.{Curve}
+use Rattle.rating.specs.declared.RatedReading.{RatedReading}
 use Rattle.fields.specs.Bytes.{number32}
 use Rattle.fields.specs.Ranges.{in_range, all_below}
 use Rattle.fields.proofs.RangeLaws.{all_three, all-six, joined_same, range-bounds, all-at}
@@ -64,10 +64,6 @@ pub noise-read :
     → NoiseInRange R beta
 unfolding gauge_from
 noise-read table at e f h = rw (e, f) h
-
-pub size-two : (table : List ℕ) → table_version table ≡ 2 → gauge_size table ≡ 48
-unfolding gauge_size
-size-two table e = rw e
 
 -- the bytes of a gauge in either version
 module _ (table : List ℕ) (v : Versioned table) where

@@ -1,9 +1,9 @@
 -- Document 02, M-101: "one look along the pieces, first to last .. it answers the same z or 14 as before, and with either the number of
 -- pieces it read"; M-105: "The curve now answers a discharge and a noise together."
-use Rattle.rating.specs.declared.RatedReading.{RatedReading}
 use Rattle.std.specs.Prelude.{ℕ, ◌+◌, ◌-◌, ◌≤◌, ◌<◌, cond, List, [], ◌∷◌, ◌≡◌, ltb, length, get_or}
 use Rattle.refusal.specs.Answers.{Answer, accepted, answer_of}
 use Rattle.rating.specs.declared.Piece.{Piece}
+use Rattle.rating.specs.declared.RatedReading.{RatedReading}
 use Rattle.rating.specs.declared.CurveLook.{CurveLook}
 use Rattle.rating.specs.Rating.{piece_for, no_piece}
 
