@@ -12,7 +12,6 @@ use native.Mathlib.Decide.{dec_le}
 use native.Mathlib.Numerals.{add-one}
 use native.Mathlib.Omega.{arith}
 use lib.ListN.{length}
-use Rattle.sizes.specs.Sizes.{most_leads}
 use Rattle.refusal.specs.declared.Refusal.{Refusal}
 use Rattle.refusal.proofs.RuleLaws.{not-both}
 use Rattle.units.proofs.UnderLaws.{Under, none-under, parts-under, both_under, under-accepted, known_under, refused-whole}
@@ -20,11 +19,11 @@ use Rattle.units.proofs.CeilingLaws.{same-accepted, same-refused, passed-on}
 use Rattle.method.specs.declared.Figures.{Figures}
 use Rattle.method.specs.Figures.{FiguresFit}
 use Rattle.method.specs.Inflow.{joined_inflow, old_outflow, old_and_new_outflow}
-use Rattle.answer_space.specs.Places.{figures_at, added, most_sum_before, FiguresBelow}
+use Rattle.answer_space.specs.Places.{figures_at, added, most_sum_before}
 use Rattle.one_lead.specs.declared.ElementInput.{ElementInput}
 use Rattle.one_lead.specs.declared.Lead.{Lead}
 use Rattle.one_lead.specs.Leads.{lead_step, lead_step_numbers}
-use Rattle.one_lead.specs.Worked.{step_lead, InputInRange, LeadReady, LeadWorked}
+use Rattle.one_lead.specs.Worked.{step_lead, LeadReady, LeadWorked}
 use Rattle.one_lead.proofs.LeadLaws.{step-worked}
 use Rattle.lead_walk.specs.Leads.{figures_after, numbers_after}
 use Rattle.lead_walk.specs.Worked.{Apart, LeadPlaces, drained_at, LeadsDone, ElementWorked}
@@ -96,9 +95,6 @@ module _ (c : ElementInput) (first : Figures) (here below : ℕ) (before : List 
 
     below-is : figures_at now (below + m) ≡ figures_at before (below + m)
     below-is = h.others (below + m) own-apart (λ l k e. omega arith)
-
-    below-small : FiguresBelow (figures_at before (below + m)) most_sum_before → FiguresBelow (figures_at now (below + m)) most_sum_before
-    below-small s = subst (λ (f : Figures). FiguresBelow f most_sum_before) (sym below-is) s
 
     -- what the lead works out is the next of the element's figures
     step_is : lead_step c (c.first_lead + m) (figures_at now (here + m)) old ≡ along (suc m)
@@ -202,26 +198,6 @@ leads-begin c first here below leads before fits =
 module _
     (c : ElementInput) (first : Figures) (here below leads : ℕ) (before : List ℕ) (places : LeadPlaces here below leads before) (k : ℕ)
     (now : List ℕ) (old : Figures) (h : LeadsSoFar c first here below leads before k now old) (less : k < leads) where
-  -- the next lead is ready to be worked out
-  pub lead-ready :
-      InputInRange c
-      → (number : ℕ)
-      → number ≤ most_leads
-      → LeadReady most_sum_before c (record { number = number; here = here + k; below = below + k }) old now
-  lead-ready in_range number few =
-      record {
-        in_range = in_range;
-        number = few;
-        here = omega (arith, less, places.here_room, h.size);
-        below = omega (arith, less, places.below_room, h.size);
-        apart = places-apart c first here below before k leads now old h.done h.is less places.apart;
-        old = subst FiguresFit (sym h.is) (h.done.fits k (omega arith));
-        small = below-small c first here below before k leads now old h.done h.is less places.apart (places.small k less);
-      }
-
-  pub number-few : InputInRange c → c.first_lead + k ≤ most_leads
-  number-few in_range = omega (arith, less, places.short, in_range.first_lead)
-
   module _ (r : Result Figures Refusal) (next : List ℕ) (w : LeadWorked (old_and_new_outflow old) r c (lead_at c here below k) old now next) where
     -- it is refused, and with it the element
     pub leads-refused :

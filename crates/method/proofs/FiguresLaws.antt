@@ -5,15 +5,8 @@ use mathlib.Core.Path.{◌≡◌, subst}
 use borrow.Author.Tests.{le-ltb}
 use Rattle.units.specs.Ceiling.{some_passes}
 use Rattle.units.proofs.UnderLaws.{Under, first_under}
-use Rattle.weighting.specs.Estimates.{EstimateFits}
 use Rattle.method.specs.declared.Figures.{Figures}
-use Rattle.method.specs.Figures.{discharge, variance, figure_numbers, FiguresFit, AnsweredFiguresFit}
-
-pub discharge-fits : {f : Figures} → FiguresFit f → EstimateFits (discharge f)
-discharge-fits h = record { value = h.discharge; margin = h.discharge_margin }
-
-pub variance-fits : {f : Figures} → FiguresFit f → EstimateFits (variance f)
-variance-fits h = record { value = h.variance; margin = h.variance_margin }
+use Rattle.method.specs.Figures.{figure_numbers, FiguresFit, AnsweredFiguresFit}
 
 pub accepted-fits : {r : Result Figures Refusal} {x : Figures} → r ≡ Ok x → AnsweredFiguresFit r → FiguresFit x
 unfolding AnsweredFiguresFit

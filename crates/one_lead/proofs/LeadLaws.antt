@@ -17,8 +17,7 @@ use Rattle.method.specs.Figures.{FiguresFit, AnsweredFiguresFit}
 use Rattle.method.specs.Inflow.{reach_inflow, joined_inflow, old_outflow, old_and_new_outflow}
 use Rattle.method.proofs.InflowLaws.{old-then-new, new-then-old, old-outflow-fits}
 use Rattle.elements.specs.Kinds.{dam}
-use Rattle.record.specs.Decoded.{ObservationFits}
-use Rattle.element_step.specs.Bounds.{tank_element, TankInRange}
+use Rattle.element_step.specs.Bounds.{tank_element}
 use Rattle.element_step.specs.ElementStep.{released}
 use Rattle.element_step.specs.Answers.{stored_answer, element_answer}
 use Rattle.element_step.proofs.StepLaws.{reach-answered, dam-answered, released-fit}
@@ -260,11 +259,3 @@ module _
             (tank-answered number) x is (old_and_new_outflow old)
             (record { fits = kept.fits; placed = kept.placed; added = kept.added; others = kept.others; size = kept.size });
       }
-
--- what the code of a tank relies on
-pub tank-ready :
-    {noise weight : ℕ} {o : Option RatedReading} {lead : Lead} {old : Figures} {space : List ℕ}
-    → LeadReady most_sum_before (tank_input noise weight o) lead old space
-    → TankInRange noise weight old × ObservationFits o
-tank-ready h =
-    (record { system_noise = h.in_range.element.system_noise; weight = h.in_range.weight; old = h.old }, h.in_range.observation)

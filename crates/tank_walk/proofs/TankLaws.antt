@@ -4,10 +4,9 @@ use Rattle.std.specs.Prelude.{Result, Ok, Err, IsErrAnd, None}
 use Rattle.std.proofs.lemmas.Result.{err_from_is_err_and}
 use Prim.Native.Nat.{ℕ, ◌+◌, ◌*◌, ◌<◌}
 use mathlib.Core.List.{List}
-use mathlib.Core.Logic.{⊎_elim, inr, inl}
+use mathlib.Core.Logic.{inr, inl}
 use mathlib.Core.Path.{◌≡◌, refl, sym, ap, subst, ◌∙◌}
 use borrow.Author.Tests.{eq-eqb, ne_eqb}
-use native.Mathlib.Nat.{eq-or-lt_of_le}
 use native.Mathlib.Omega.{arith}
 use lib.ListN.{length}
 use Rattle.refusal.specs.declared.Refusal.{Refusal}
@@ -22,24 +21,9 @@ use Rattle.state.specs.States.{State, figures_of}
 use Rattle.answer_space.specs.Places.{most_sum_before, FiguresBelow}
 use Rattle.one_lead.specs.declared.ElementInput.{ElementInput}
 use Rattle.one_lead.specs.Worked.{tank_input}
-use Rattle.lead_walk.specs.Worked.{TankReady, ElementWorked}
+use Rattle.lead_walk.specs.Worked.{TankReady}
 use Rattle.tank_walk.specs.declared.TankPlaces.{TankPlaces}
-use Rattle.tank_walk.specs.Tanks.{
-  tank_place,
-  RowCleared,
-  MoveReady,
-  PlaceFits,
-  TankTurn,
-  done,
-  refused,
-  more,
-  TanksWorked,
-  TanksThere,
-  TankTurnReady,
-  TankTurned,
-  TanksReady,
-  TanksAnswered,
-}
+use Rattle.tank_walk.specs.Tanks.{tank_place, RowCleared, MoveReady, TankTurn, done, refused, more, TanksWorked, TanksThere, TankTurnReady, TankTurned, TanksReady, TanksAnswered}
 
 -- the last stands at the element's own place, the others after one another
 pub place-last : (p : TankPlaces) (extra : ℕ) → tank_place p extra extra ≡ p.own
@@ -70,13 +54,6 @@ there-again g size =
 module _
     {noise weight extra j : ℕ} {p : TankPlaces} {first : Figures} {before : List ℕ}
     (g : TankTurnReady noise weight extra j p first before) where
-  pub here-fits : PlaceFits p extra j
-  here-fits = record { few = λ _. g.there.few j g.tank }
-
-  pub below-fits : PlaceFits p extra (j + 1)
-  below-fits =
-      record { few = λ n. ⊎_elim (λ (e : j + 1 ≡ extra). absurd (n e)) (λ l. g.there.few (j + 1) l) (eq-or-lt_of_le (omega (arith, g.tank))) }
-
   module _
       {a b : ℕ} (is-a : a ≡ tank_place p extra j) (is_b : b ≡ tank_place p extra (j + 1)) {middle : List ℕ}
       (cleared : RowCleared b p.leads before middle) where
@@ -99,17 +76,6 @@ module _
             apart = rw (is-a, is_b) (g.there.apart j g.tank);
             small = λ l m. subst (λ (f : Figures). FiguresBelow f most_sum_before) (sym (cleared.cleared l m)) none-small;
           };
-        }
-
-    pub tank-turned :
-        {r : Result Unit Refusal} {after : List ℕ}
-        → ElementWorked r (tank_input noise weight None) first a b p.leads middle after
-        → TankTurned r noise weight extra j p first before after
-    tank-turned {r} {after} w =
-        record {
-          middle = middle;
-          row = rw is_b at cleared;
-          worked = rw (is-a, is_b) at w;
         }
 
 -- ---- one after the other
@@ -187,15 +153,4 @@ module _ {noise weight extra x : ℕ} {p : TankPlaces} {s : State} {before : Lis
         source_room = rw (place-last p extra) at (g.there.room extra (omega arith));
         place_room = omega (arith, g.there.room 0 (omega arith), place-inner p extra 0 g.there.some);
         apart = g.there.moved;
-      }
-
-  pub moved_ready : {middle : List ℕ} → length middle ≡ length before → TanksReady noise weight extra x 0 p s middle
-  moved_ready size =
-      record {
-        there = there-again g.there size;
-        places = g.places;
-        tank = omega arith;
-        system_noise = g.system_noise;
-        weighed = g.weighed;
-        fits = g.fits;
       }

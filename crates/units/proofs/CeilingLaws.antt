@@ -91,13 +91,6 @@ module _ {A : Type 0} (ns : List ℕ) (a : A) {k : ℕ} (e : refused k ≡ under
   pub passed-on : {B : Type 0} {answer : Answer B} → answer ≡ refused 16 → refused k ≡ answer
   passed-on h = rw number-16 (sym h)
 
--- of a number that is judged first
-pub passed-first :
-    {A B : Type 0} (n : ℕ) (ns : List ℕ) (a : A) (b : B) {k : ℕ}
-    → refused k ≡ under_ceiling (n ∷ []) a
-    → refused k ≡ under_ceiling (n ∷ ns) b
-passed-first n ns a b e = passed-on (n ∷ []) a e (passes n ns b (refused-one n a e))
-
 -- numbers after numbers
 passes_append : (ns ms : List ℕ) → some_passes (ns ++ ms) ≡ (some_passes ns || some_passes ms)
 unfolding some_passes

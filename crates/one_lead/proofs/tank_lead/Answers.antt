@@ -1,10 +1,7 @@
 -- `tank_lead` meets its contract.
 use Rattle.method.proofs.FiguresLaws.{accepted-fits}
-use Rattle.one_lead.proofs.LeadLaws.{tank-refused, old-ready, new-ready, places-ready, new-kept, both-kept, tank-accepted, tank-ready}
+use Rattle.one_lead.proofs.LeadLaws.{tank-refused, old-ready, new-ready, places-ready, new-kept, both-kept, tank-accepted}
 use Rattle.one_lead.proofs.tank_lead.Goals as goal
-
-pub step_tank-requires : goal.step_tank-requires
-step_tank-requires c = tank-ready c.requires
 
 pub returns-in_err-new : goal.returns-in_err-new
 returns-in_err-new c =

@@ -1,13 +1,7 @@
 -- `work_tanks` meets its contract.
 use native.Mathlib.Omega.{arith}
-use Rattle.tank_walk.proofs.TankLaws.{tanks-begin, one-ready, tanks-passed, tanks-again, tanks-ended}
+use Rattle.tank_walk.proofs.TankLaws.{tanks-passed, tanks-again, tanks-ended}
 use Rattle.tank_walk.proofs.work_tanks.Goals as goal
-
-pub loop-j-init : goal.loop-j-init
-loop-j-init c = tanks-begin c.requires
-
-pub work_tank-requires : goal.work_tank-requires
-work_tank-requires c = one-ready c.loop-j.invariant c.loop-j-test.true c.figures_of-first.ensures
 
 pub returns-in_err-work_tank : goal.returns-in_err-work_tank
 returns-in_err-work_tank c =
