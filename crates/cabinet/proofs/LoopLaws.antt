@@ -7,39 +7,17 @@ use native.Mathlib.Omega.{arith}
 use borrow.Rule.Slice.PartMut.{mid_of, put_mid, same_len_mid, take_put}
 use lib.ListN.{length, take, drop, length-take, length-drop}
 use lib.Seq.{length-take-le}
-use Rattle.sizes.specs.Sizes.{most_elements, state_numbers, table_bytes, longest_record, input_buffer, text_buffer}
+use Rattle.sizes.specs.Sizes.{longest_record}
 use Rattle.state.specs.States.{State}
 use Rattle.program_run.specs.Machine as definition
 use Rattle.program_run.specs.Machine.{Held, next, written, answered, after_next, given, closed}
 use Rattle.program_run.proofs.NextLaws.{read-open}
 use Rattle.program_run.proofs.MeasureLaws.{size, write-less, answer-less, given-less, closed-less}
 use Rattle.progress.specs.declared.Progress.{Progress}
-use Rattle.progress.specs.Places.{held_in, FirstProgress, ReadIn}
+use Rattle.progress.specs.Places.{held_in, ReadIn}
 use Rattle.machine.specs.declared.Next.TheVariants.{Write, Read, Answer}
 use Rattle.machine.specs.declared.Turn.{Turn}
-use Rattle.machine.specs.Buffers.{BuffersFit}
-use Rattle.machine.proofs.AnswerLaws.{sizes-kept}
 use Rattle.machine.specs.Turns.{next_in, Turned}
-
--- before the first turn
-pub first_fits :
-    (p : Progress) (input table weights : List ℕ) (state : State) (out : List ℕ)
-    → FirstProgress p
-    → input_buffer ≡ length input
-    → table_bytes ≡ length table
-    → most_elements ≡ length weights
-    → length state ≡ state_numbers
-    → text_buffer ≡ length out
-    → BuffersFit p input table weights state out
-first_fits p input table weights state out f i t w s o =
-    record {
-      order = omega (arith, f.from, f.have);
-      inside = omega (arith, f.have);
-      table_inside = omega (arith, f.length);
-      text_inside = omega (arith, f.at);
-      sizes = record { input_whole = sym i; table_whole = sym t; weights_whole = sym w; state_whole = s; text_whole = sym o };
-      started = λ j some. absurd (let z : ◌≡◌ {A = ℕ} 0 1 = cc (j, f.judged) in omega (arith, z));
-    }
 
 module _
     (h : Held) (r : Turn) (input table weights : List ℕ) (state : State) (out : List ℕ)
@@ -85,9 +63,6 @@ module _
         let some = length-take k (drop at input) in
         let rest = length-drop at input in omega (arith, lent, count, some, rest, room)
 
-    pub read-few : r.progress.have + got ≤ input_buffer
-    read-few = omega (arith, few, place, t.fits.sizes.input_whole)
-
     full : length after ≡ length input
     full = same_len_mid at k input part lent
 
@@ -95,19 +70,6 @@ module _
     held_bytes = rw (← place) (take_put at k input part room)
 
     module _ (p : Progress) (i : ReadIn r.progress got p) where
-      pub read_fits : BuffersFit p after table weights state out
-      read_fits =
-          let f = t.fits in
-          rw i.same
-          (record {
-            order = omega (arith, f.order);
-            inside = omega (arith, few, place, f.sizes.input_whole);
-            table_inside = f.table_inside;
-            text_inside = f.text_inside;
-            sizes = sizes-kept f.sizes full refl refl f.sizes.state_whole refl;
-            started = f.started;
-          })
-
       still_open : r.progress.over ≡ false
       unfolding held_in
       still_open = ap (λ (k : Held). k.over) same ∙ read-open h did

@@ -35,6 +35,7 @@ fn weight_space() -> [u64; MOST_ELEMENTS]
 }
 
 // A state with nothing in it.
+#[tactic(auto, unfolding(table_input::specs::Start::empty_state))]
 fn empty_state() -> [u64; STATE_NUMBERS]
     ensures { result ≡ empty_state }
 {
@@ -59,10 +60,7 @@ fn text_buffer() -> [u8; TEXT_BUFFER]
 fn read_input(input: &mut Stdin, buffer: &mut [u8]) -> usize
     ensures { IsPrefixLen result buffer.new }
 {
-    match input.read(buffer) {
-        Ok(got) => got,
-        Err(_) => 0,
-    }
+    input.read(buffer).unwrap_or(0)
 }
 
 fn main(rt: HostRuntime) {
@@ -87,8 +85,7 @@ fn main(rt: HostRuntime) {
             &mut out,
         );
         progress = turn.progress;
-        let done = turn.next;
-        match done {
+        match turn.next {
             Next::Write(size) => {
                 io::write_all(1, &out[..size]);
             }
