@@ -1,2 +1,3 @@
 pub mod PlacesLaws
 pub mod EmptyLaws
+pub mod LayLaws

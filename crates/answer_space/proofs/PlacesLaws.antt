@@ -1,4 +1,4 @@
--- The places of the working space: four numbers each, by element and then lead.
+-- The places of the working space, by element and then lead.
 use Prim.Native.Nat.{ℕ, ◌+◌, ◌*◌, ◌≤◌, ◌<◌}
 use mathlib.Core.List.{List}
 use mathlib.Core.Logic.{◌≢◌, ⊎_elim}
@@ -11,80 +11,24 @@ use lib.Seq.{get_or-set_same, get_or-set_other}
 use Rattle.units.specs.Units.{C}
 use Rattle.method.specs.declared.Figures.{Figures}
 use Rattle.method.specs.Figures.{FiguresFit}
-use Rattle.method.specs.Inflow.{joined_inflow}
-use Rattle.answer_space.specs.Places.{figures_at, put, put_and_added, most_sum, FiguresBelow, PlacesReady}
+use Rattle.method.specs.Inflow.{no_inflow, joined_inflow}
+use Rattle.answer_space.specs.Places.{figures_at, put, added, put_and_added, most_sum, FiguresBelow, PlacesReady}
 
--- four numbers put at place p
-module _ (answer : List ℕ) (p : ℕ) (f : Figures) where
-  pub put-length : length (put answer p f) ≡ length answer
+-- figures put at place p
+module _ (space : List Figures) (p : ℕ) (f : Figures) where
+  pub put-length : length (put space p f) ≡ length space
   unfolding put
-  put-length = simp length-set refl
+  put-length = length-set space p f
 
-  -- after one, two and three of them
-  abbrev one : List ℕ
-  one = set answer (4 * p) f.discharge.0
+  -- those of another place stay
+  pub put_other : (q : ℕ) → q ≢ p → figures_at (put space p f) q ≡ figures_at space q
+  unfolding figures_at put
+  put_other q n = get_or-set_other space p q f no_inflow n
 
-  abbrev two : List ℕ
-  two = set one (4 * p + 1) f.discharge_margin.0
-
-  abbrev three : List ℕ
-  three = set two (4 * p + 2) f.variance.0
-
-  number-other :
-      (k : ℕ)
-      → k ≢ 4 * p
-      → k ≢ 4 * p + 1
-      → k ≢ 4 * p + 2
-      → k ≢ 4 * p + 3
-      → get_or (put answer p f) k 0 ≡ get_or answer k 0
-  unfolding put
-  number-other k a b c d =
-      get_or-set_other three (4 * p + 3) k f.variance_margin.0 0 d
-      ∙ (get_or-set_other two (4 * p + 2) k f.variance.0 0 c
-      ∙ (get_or-set_other one (4 * p + 1) k f.discharge_margin.0 0 b
-      ∙ get_or-set_other answer (4 * p) k f.discharge.0 0 a))
-
-  -- the numbers of another place stay
-  pub put_other : (q : ℕ) → q ≢ p → figures_at (put answer p f) q ≡ figures_at answer q
-  unfolding figures_at
-  put_other q n =
-      rw (
-        number-other (4 * q) (λ e. n (omega (arith, e))) (λ e. n (omega (arith, e))) (λ e. n (omega (arith, e))) (λ e. n (omega (arith, e))),
-        number-other (4 * q + 1) (λ e. n (omega (arith, e))) (λ e. n (omega (arith, e))) (λ e. n (omega (arith, e))) (λ e. n (omega (arith, e))),
-        number-other (4 * q + 2) (λ e. n (omega (arith, e))) (λ e. n (omega (arith, e))) (λ e. n (omega (arith, e))) (λ e. n (omega (arith, e))),
-        number-other (4 * q + 3) (λ e. n (omega (arith, e))) (λ e. n (omega (arith, e))) (λ e. n (omega (arith, e))) (λ e. n (omega (arith, e))),
-      )
-
-  module _ (room : 4 * p + 3 < length answer) where
-    first : get_or (put answer p f) (4 * p) 0 ≡ f.discharge.0
-    unfolding put
-    first =
-        get_or-set_other three (4 * p + 3) (4 * p) f.variance_margin.0 0 (λ e. omega (arith, e))
-        ∙ (get_or-set_other two (4 * p + 2) (4 * p) f.variance.0 0 (λ e. omega (arith, e))
-        ∙ (get_or-set_other one (4 * p + 1) (4 * p) f.discharge_margin.0 0 (λ e. omega (arith, e))
-        ∙ get_or-set_same answer (4 * p) f.discharge.0 0 (omega (arith, room))))
-
-    second : get_or (put answer p f) (4 * p + 1) 0 ≡ f.discharge_margin.0
-    unfolding put
-    second =
-        get_or-set_other three (4 * p + 3) (4 * p + 1) f.variance_margin.0 0 (λ e. omega (arith, e))
-        ∙ (get_or-set_other two (4 * p + 2) (4 * p + 1) f.variance.0 0 (λ e. omega (arith, e))
-        ∙ get_or-set_same one (4 * p + 1) f.discharge_margin.0 0 (simp length-set (omega (arith, room))))
-
-    third : get_or (put answer p f) (4 * p + 2) 0 ≡ f.variance.0
-    unfolding put
-    third =
-        get_or-set_other three (4 * p + 3) (4 * p + 2) f.variance_margin.0 0 (λ e. omega (arith, e))
-        ∙ get_or-set_same two (4 * p + 2) f.variance.0 0 (simp length-set (omega (arith, room)))
-
-    fourth : get_or (put answer p f) (4 * p + 3) 0 ≡ f.variance_margin.0
-    unfolding put
-    fourth = get_or-set_same three (4 * p + 3) f.variance_margin.0 0 (simp length-set (omega (arith, room)))
-
-    -- they are at place p
-    pub put-here : figures_at (put answer p f) p ≡ f
-    unfolding figures_at
-    put-here = rw (first, second, third, fourth)
+  -- they are at place p
+  pub put-here : p < length space → figures_at (put space p f) p ≡ f
+  unfolding figures_at put
+  put-here room = get_or-set_same space p f no_inflow room
 
 -- how large sums are
 pub fits_below : {f : Figures} → FiguresFit f → FiguresBelow f C
@@ -112,14 +56,14 @@ joined-below h g l =
     }
 
 -- figures put at p, and then added to the sums at another place
-module _ (answer middle : List ℕ) (p q : ℕ) (f : Figures) (ready : PlacesReady answer p q f) (is : middle ≡ put answer p f) where
-  sums-stay : figures_at middle q ≡ figures_at answer q
-  sums-stay = rw is (put_other answer p f q ready.apart)
+module _ (space middle : List Figures) (p q : ℕ) (f : Figures) (ready : PlacesReady space p q f) (is : middle ≡ put space p f) where
+  sums-stay : figures_at middle q ≡ figures_at space q
+  sums-stay = rw is (put_other space p f q ready.apart)
 
-  pub add-ready : (4 * q + 3 < length middle) × (FiguresBelow (figures_at middle q) most_sum × FiguresFit f)
-  add-ready = (rw (is, put-length answer p f) ready.below_room, (rw sums-stay ready.small, ready.fits))
+  pub add-ready : (q < length middle) × (FiguresBelow (figures_at middle q) most_sum × FiguresFit f)
+  add-ready = (rw (is, put-length space p f) ready.below_room, (rw sums-stay ready.small, ready.fits))
 
-  pub put-then-added : {after : List ℕ} → after ≡ put middle q (joined_inflow (figures_at middle q) f) → after ≡ put_and_added answer p q f
+  pub put-then-added : {after : List Figures} → after ≡ added middle q f → after ≡ put_and_added space p q f
   put-then-added e = rw (sums-stay, is) at e
 
 -- places of two elements and leads, at w leads an element, are apart

@@ -1,37 +1,29 @@
--- Serves the code: the places of its working space, four numbers each.
+-- Serves the code: the places of its working space, the figures of an element each.
 use Rattle.std.specs.Prelude.{ℕ, ◌+◌, ◌-◌, ◌*◌, ◌≤◌, ◌<◌, List, ◌≢◌, ◌≡◌, length, get_or, set}
 use Rattle.sizes.specs.Sizes.{most_places}
 use Rattle.units.specs.Units.{C, grains, thousandths}
 use Rattle.method.specs.declared.Figures.{Figures}
 use Rattle.method.specs.Figures.{FiguresFit}
-use Rattle.method.specs.Inflow.{joined_inflow}
+use Rattle.method.specs.Inflow.{no_inflow, joined_inflow}
+
+-- the figures at place p of a space, and those of an element put there
+unfoldable pub figures_at : List Figures → ℕ → Figures
+figures_at space p = get_or space p no_inflow
+
+unfoldable pub put : List Figures → ℕ → Figures → List Figures
+put space p f = set space p f
 
 -- a space with nothing in it
-pub record Empty (space : List ℕ) : Type 0 where
-  pub at : (k : ℕ) → get_or space k 0 ≡ 0
-
--- four numbers at place p of an answer, and those of an element put there
-unfoldable pub figures_at : List ℕ → ℕ → Figures
-figures_at answer p =
-    record {
-      discharge = grains (get_or answer (4 * p) 0);
-      discharge_margin = grains (get_or answer (4 * p + 1) 0);
-      variance = thousandths (get_or answer (4 * p + 2) 0);
-      variance_margin = thousandths (get_or answer (4 * p + 3) 0);
-    }
-
-unfoldable pub put : List ℕ → ℕ → Figures → List ℕ
-put answer p f =
-    set (set (set (set answer (4 * p) f.discharge.0) (4 * p + 1) f.discharge_margin.0) (4 * p + 2) f.variance.0)
-    (4 * p + 3) f.variance_margin.0
+pub record Empty (space : List Figures) : Type 0 where
+  pub at : (p : ℕ) → figures_at space p ≡ no_inflow
 
 -- figures added to the sums at a place
-abbrev pub added : List ℕ → ℕ → Figures → List ℕ
-added answer p f = put answer p (joined_inflow (figures_at answer p) f)
+abbrev pub added : List Figures → ℕ → Figures → List Figures
+added space p f = put space p (joined_inflow (figures_at space p) f)
 
 -- the figures of an element put at one place, and added to the sums at another
-abbrev pub put_and_added : List ℕ → ℕ → ℕ → Figures → List ℕ
-put_and_added answer here below f = put (put answer here f) below (joined_inflow (figures_at answer below) f)
+abbrev pub put_and_added : List Figures → ℕ → ℕ → Figures → List Figures
+put_and_added space here below f = put (put space here f) below (joined_inflow (figures_at space below) f)
 
 -- what one element can let out, an old and a new figure; all elements together, and all but one
 abbrev pub most_outflow : ℕ
@@ -51,9 +43,9 @@ pub record FiguresBelow (f : Figures) (b : ℕ) : Type 0 where
   pub variance_margin : f.variance_margin.0 ≤ b
 
 -- what putting and adding figures relies on
-pub record PlacesReady (answer : List ℕ) (here below : ℕ) (f : Figures) : Type 0 where
-  pub here_room : 4 * here + 3 < length answer
-  pub below_room : 4 * below + 3 < length answer
+pub record PlacesReady (space : List Figures) (here below : ℕ) (f : Figures) : Type 0 where
+  pub here_room : here < length space
+  pub below_room : below < length space
   pub apart : below ≢ here
-  pub small : FiguresBelow (figures_at answer below) most_sum
+  pub small : FiguresBelow (figures_at space below) most_sum
   pub fits : FiguresFit f

@@ -4,12 +4,13 @@
 
 ghost use Rattle.std.specs.Prelude.{◌≡◌, length};
 ghost use Rattle.io.specs.Counts.{IsPrefixLen};
-ghost use Rattle.sizes.specs.Sizes.{most_elements, table_bytes, forecast_space, input_buffer, text_buffer};
+ghost use Rattle.sizes.specs.Sizes.{most_elements, table_bytes, forecast_places, input_buffer, text_buffer};
 ghost use Rattle.table_input.specs.Start.{empty_state};
 
 use machine::{Next, proceed};
+use method::Figures;
 use progress::{after_read, first_progress};
-use sizes::{FORECAST_SPACE, INPUT_BUFFER, MOST_ELEMENTS, STATE_NUMBERS, TABLE_BYTES, TEXT_BUFFER};
+use sizes::{FORECAST_PLACES, INPUT_BUFFER, MOST_ELEMENTS, STATE_NUMBERS, TABLE_BYTES, TEXT_BUFFER};
 use std::io::{Read, Stdin};
 use text::DigitFours;
 
@@ -43,10 +44,10 @@ fn empty_state() -> [u64; STATE_NUMBERS]
 }
 
 // Working space for the largest forecast.
-fn forecast_space() -> [u64; FORECAST_SPACE]
-    ensures { forecast_space ≡ length result }
+fn forecast_space() -> [Figures; FORECAST_PLACES]
+    ensures { forecast_places ≡ length result }
 {
-    [0; FORECAST_SPACE]
+    [Figures::NONE; FORECAST_PLACES]
 }
 
 // The text that is not written yet.

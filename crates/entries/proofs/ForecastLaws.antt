@@ -10,7 +10,8 @@ use Rattle.refusal.proofs.RuleLaws.{rule-kept}
 use Rattle.units.specs.Units.{C}
 use Rattle.units.proofs.UnderLaws.{Under, none-under, first_under, both_under}
 use Rattle.method.specs.declared.Figures.{Figures}
-use Rattle.method.specs.Figures.{FiguresFit}
+use Rattle.method.specs.Figures.{FiguresFit, layout}
+use Rattle.method.specs.Inflow.{no_inflow}
 use Rattle.method.proofs.FiguresLaws.{figures-under}
 use Rattle.table.specs.Tables.{TableValues}
 use Rattle.cells.specs.Cells.{last_cell, cells}
@@ -21,9 +22,8 @@ use Rattle.state.proofs.BoundsLaws.{state-bounds}
 use Rattle.network.specs.Step.{no_observation}
 use Rattle.network.specs.Forecast.{lead_figures, lead_numbers}
 use Rattle.network.specs.Answer.{listed, by_element_and_lead, forecast_figures, space_fits, leads_answer}
-use Rattle.network.specs.Lent.{layout}
 use Rattle.network.proofs.NumbersLaws.{lead_own, lead-part}
-use Rattle.network.proofs.LayoutLaws.{layout-append}
+use Rattle.method.proofs.LayoutLaws.{layout-append}
 use Rattle.entries.specs.Entries.{forecast_on_answer}
 use Rattle.entries.proofs.NextLaws.{new-fit, under-kept}
 
@@ -94,3 +94,17 @@ answer-under t s room figures h k =
     let a = forecasting-on t s room figures h in
     rw a.1
     (under_at _ (by-lead-under (λ i lead. lead_figures t s lead (last_cell t i)) t.elements (t.leads + 1) (λ i lead l m. lead-fits t s a.0 lead (omega arith) (last_cell t i) (last-in-use t i l))) k)
+
+-- so none of its figures
+laid-fits : (fs : List Figures) → ((k : ℕ) → get_or (layout fs) k 0 ≤ C) → (k : ℕ) → FiguresFit (get_or fs k no_inflow)
+unfolding layout no_inflow
+laid-fits [] h k = record { discharge = omega arith; discharge_margin = omega arith; variance = omega arith; variance_margin = omega arith }
+laid-fits (f ∷ fs) h zero = record { discharge = h 0; discharge_margin = h 1; variance = h 2; variance_margin = h 3 }
+laid-fits (f ∷ fs) h (suc k) = laid-fits fs (λ j. h (suc (suc (suc (suc j))))) k
+
+pub answer-fits :
+    (t : TableValues) (s : State) (room : ℕ) (figures : List Figures)
+    → forecast_on_answer t s room ≡ accepted figures
+    → (k : ℕ)
+    → FiguresFit (get_or figures k no_inflow)
+answer-fits t s room figures h k = laid-fits figures (answer-under t s room figures h) k

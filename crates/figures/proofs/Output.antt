@@ -32,7 +32,7 @@ use Rattle.method.specs.Inflow.{step_inflow, no_inflow, joined_inflow, old_outfl
 use Rattle.method.specs.Routing.{routed_discharge, old_variance_part, inflow_variance_part, routed_variance, routed, variance_numbers, routing_numbers}
 use Rattle.network.specs.Answer.{listed, by_element_and_lead, forecast_figures, space_fits, leads_answer}
 use Rattle.network.specs.Forecast.{rain_count, rain_sum, lead_inflow, forecast_own, lead_figures, lead_numbers}
-use Rattle.network.specs.Lent.{layout}
+use Rattle.method.specs.Figures.{layout}
 use Rattle.network.specs.Step.{weight_of, network_down, network_cell, network_outflow, above_of, new_figures, network_numbers, step_own, observed_in, no_observation, step_figures, step_put, stepped, step_numbers}
 use Rattle.rating.specs.Noise.{deviation, noise_of, with_noise}
 use Rattle.rating.specs.Rating.{pieces_of, piece_for, depth, discharge_at, on_piece, rated}

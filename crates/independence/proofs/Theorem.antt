@@ -21,10 +21,9 @@ use Rattle.cells.proofs.CellLaws.{last-in-use}
 use Rattle.record.proofs.CellInputs.{basins-same, dams-same, gauges-same, reading-same}
 use Rattle.state.specs.States.{State, cell_figures}
 use Rattle.network.specs.Step.{step_own, observed_in, step_figures}
-use Rattle.answer_space.specs.Places.{figures_at}
 use Rattle.independence.specs.Independence.{AcceptedTrial, DifferAt, Reached, here, Agree, AgreeApart}
 use Rattle.independence.proofs.WalkLaws.{same-figures}
-use Rattle.independence.proofs.ShownLaws.{trial-bounds, trial-shows}
+use Rattle.independence.proofs.ShownLaws.{figures_read, trial-bounds, trial-shows}
 use Rattle.independence.proofs.ReachedLaws.{last-reached, none-reached}
 
 -- the step's figures of two records whose readings may differ at the gauge of cell number `from` alone
@@ -78,8 +77,8 @@ last-same t s g one other b d i l apart = go (leb (suc g) t.gauges) refl
         (λ r. omega (arith, none-reached r))
 
 -- equal figures are equal numbers
-agreeing : {one other : List ℕ} (i : ℕ) → figures_at one i ≡ figures_at other i → Agree one other i
-unfolding figures_at
+agreeing : {one other : List ℕ} (i : ℕ) → figures_read one i ≡ figures_read other i → Agree one other i
+unfolding figures_read
 agreeing i e =
     record {
       discharge = ap (λ (f : Figures). f.discharge.0) e;

@@ -50,7 +50,7 @@ module _ (c : ElementInput) (first : Figures) (above : ℕ → Figures) where
   all-parts zero h = none-under
   all-parts (suc n) h = both_under _ _ (all-parts n (λ l m. h l (omega arith))) (h n (omega arith))
 
-module _ (c : ElementInput) (first : Figures) (here below : ℕ) (before : List ℕ) where
+module _ (c : ElementInput) (first : Figures) (here below : ℕ) (before : List Figures) where
   abbrev along : ℕ → Figures
   along = figures_after c first (drained_at before here)
 
@@ -78,7 +78,7 @@ module _ (c : ElementInput) (first : Figures) (here below : ℕ) (before : List 
 
   -- one lead more, of m leads done out of `leads`
   module _
-      (m leads : ℕ) (now : List ℕ) (old : Figures) (h : LeadsDone c first here below m before now) (is : old ≡ along m)
+      (m leads : ℕ) (now : List Figures) (old : Figures) (h : LeadsDone c first here below m before now) (is : old ≡ along m)
       (less : m < leads) (apart : Apart here below leads) where
     -- the places of this lead are as before
     own-apart : (l : ℕ) → l < m → below + m ≢ here + l
@@ -105,7 +105,7 @@ module _ (c : ElementInput) (first : Figures) (here below : ℕ) (before : List 
         lead_step_numbers c (c.first_lead + m) (figures_at now (here + m)) old ≡ lead_part c first (drained_at before here) m
     numbers-are = rw (above-is, is)
 
-    module _ (r : Result Figures Refusal) (next : List ℕ) (w : LeadWorked (old_and_new_outflow old) r c (lead_at c here below m) old now next) where
+    module _ (r : Result Figures Refusal) (next : List Figures) (w : LeadWorked (old_and_new_outflow old) r c (lead_at c here below m) old now next) where
       -- it is refused, and with it the element
       element-refused :
           {s : Result Unit Refusal} {k : Refusal}
@@ -176,7 +176,7 @@ module _ (c : ElementInput) (first : Figures) (here below : ℕ) (before : List 
 
 -- what the loop over an element's leads holds after k of them: the figures at the last of these, and the space
 pub record LeadsSoFar
-    (c : ElementInput) (first : Figures) (here below leads : ℕ) (before : List ℕ) (k : ℕ) (now : List ℕ) (old : Figures)
+    (c : ElementInput) (first : Figures) (here below leads : ℕ) (before : List Figures) (k : ℕ) (now : List Figures) (old : Figures)
     : Type 0 where
   pub few : k ≤ leads
   pub size : length now ≡ length before
@@ -184,7 +184,7 @@ pub record LeadsSoFar
   pub done : LeadsDone c first here below k before now
 
 pub leads-begin :
-    (c : ElementInput) (first : Figures) (here below leads : ℕ) (before : List ℕ)
+    (c : ElementInput) (first : Figures) (here below leads : ℕ) (before : List Figures)
     → FiguresFit first
     → LeadsSoFar c first here below leads before 0 before first
 leads-begin c first here below leads before fits =
@@ -196,9 +196,9 @@ leads-begin c first here below leads before fits =
     }
 
 module _
-    (c : ElementInput) (first : Figures) (here below leads : ℕ) (before : List ℕ) (places : LeadPlaces here below leads before) (k : ℕ)
-    (now : List ℕ) (old : Figures) (h : LeadsSoFar c first here below leads before k now old) (less : k < leads) where
-  module _ (r : Result Figures Refusal) (next : List ℕ) (w : LeadWorked (old_and_new_outflow old) r c (lead_at c here below k) old now next) where
+    (c : ElementInput) (first : Figures) (here below leads : ℕ) (before : List Figures) (places : LeadPlaces here below leads before) (k : ℕ)
+    (now : List Figures) (old : Figures) (h : LeadsSoFar c first here below leads before k now old) (less : k < leads) where
+  module _ (r : Result Figures Refusal) (next : List Figures) (w : LeadWorked (old_and_new_outflow old) r c (lead_at c here below k) old now next) where
     -- it is refused, and with it the element
     pub leads-refused :
         {s : Result Unit Refusal} {n : Refusal}
@@ -219,7 +219,7 @@ module _
 
 -- all leads are done
 pub leads-done :
-    {c : ElementInput} {first : Figures} {here below leads : ℕ} {before : List ℕ} {k : ℕ} {now : List ℕ} {old : Figures}
+    {c : ElementInput} {first : Figures} {here below leads : ℕ} {before : List Figures} {k : ℕ} {now : List Figures} {old : Figures}
     → k ≡ leads
     → LeadsSoFar c first here below leads before k now old
     → LeadsDone c first here below leads before now
@@ -227,14 +227,14 @@ leads-done {c} {first} {here} {below} {leads} {before} {k} {now} e h =
     subst (λ (n : ℕ). LeadsDone c first here below n before now) e h.done
 
 pub element-accepted :
-    {c : ElementInput} {first : Figures} {here below leads : ℕ} {before after : List ℕ}
+    {c : ElementInput} {first : Figures} {here below leads : ℕ} {before after : List Figures}
     → LeadsDone c first here below leads before after
     → ElementWorked (Ok tt) c first here below leads before after
 element-accepted g = record { verdict = under-accepted tt _ g.under; done = λ a. g }
 
 -- a step is one lead, of number 0, whose old figures are added first: what its code has worked out
 module _
-    (c : ElementInput) (first : Figures) (here below : ℕ) (before space after : List ℕ) (number : c.first_lead ≡ 0)
+    (c : ElementInput) (first : Figures) (here below : ℕ) (before space after : List Figures) (number : c.first_lead ≡ 0)
     (ready : LeadReady most_sum_before c (step_lead here below) first before) (is : space ≡ added before below (old_outflow first))
     (r : Result Figures Refusal) (w : LeadWorked (λ x. x) r c (step_lead here below) first space after) where
   begun : LeadsDone c first here below 0 before before

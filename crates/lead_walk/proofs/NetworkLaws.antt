@@ -51,16 +51,16 @@ module _
     (t : TableValues) (own : ℕ → ℕ → Figures) (o : ℕ → (Option RatedReading)) (old : ℕ → ℕ → Figures) (w from : ℕ) (Kept : ℕ → Type 0)
     (at : ℕ → ℕ) where
   -- with the names of the definitions at these
-  abbrev row_at : ℕ → List ℕ → ℕ → Figures
+  abbrev row_at : ℕ → List Figures → ℕ → Figures
   row_at = network.row_at t own o old w from Kept at
 
-  abbrev cell_at : ℕ → List ℕ → ℕ → Figures
+  abbrev cell_at : ℕ → List Figures → ℕ → Figures
   cell_at = network.cell_at t own o old w from Kept at
 
-  abbrev inlet_at : ℕ → List ℕ → Inlet → Figures
+  abbrev inlet_at : ℕ → List Figures → Inlet → Figures
   inlet_at = network.inlet_at t own o old w from Kept at
 
-  abbrev sum_at : (ℕ → Inlet) → ℕ → List ℕ → ℕ → Figures
+  abbrev sum_at : (ℕ → Inlet) → ℕ → List Figures → ℕ → Figures
   sum_at = network.sum_at t own o old w from Kept at
 
   abbrev pub new_at : ℕ → ℕ → Figures
@@ -69,18 +69,18 @@ module _
   abbrev pub numbers_at : ℕ → ℕ → List ℕ
   numbers_at = network.numbers_at t own o old w from Kept at
 
-  abbrev HeldAt : (ℕ → Inlet) → ℕ → List ℕ → ℕ → Type 0
+  abbrev HeldAt : (ℕ → Inlet) → ℕ → List Figures → ℕ → Type 0
   HeldAt = network.HeldAt t own o old w from Kept at
 
-  abbrev pub Walked : (ℕ → Inlet) → ℕ → ℕ → List ℕ → Type 0
+  abbrev pub Walked : (ℕ → Inlet) → ℕ → ℕ → List Figures → Type 0
   Walked = network.Walked t own o old w from Kept at
 
-  empty-inlet : (l : ℕ) (space : List ℕ) → ((p : ℕ) → figures_at space p ≡ no_inflow) → (x : Inlet) → inlet_at l space x ≡ no_inflow
+  empty-inlet : (l : ℕ) (space : List Figures) → ((p : ℕ) → figures_at space p ≡ no_inflow) → (x : Inlet) → inlet_at l space x ≡ no_inflow
   unfolding network.inlet_at
   empty-inlet l space none (row r) = none (r * w + from + l)
   empty-inlet l space none closed = refl
 
-  pub walked-begin : (inlet : ℕ → Inlet) (leads : ℕ) (space : List ℕ) → ((p : ℕ) → figures_at space p ≡ no_inflow) → Walked inlet leads 0 space
+  pub walked-begin : (inlet : ℕ → Inlet) (leads : ℕ) (space : List Figures) → ((p : ℕ) → figures_at space p ≡ no_inflow) → Walked inlet leads 0 space
   walked-begin inlet leads space none =
       record {
         held =
@@ -94,7 +94,7 @@ module _
 
   -- the new figures of an element done that is kept, where they stand
   pub walked_at :
-      (inlet : ℕ → Inlet) (leads i : ℕ) (space : List ℕ)
+      (inlet : ℕ → Inlet) (leads i : ℕ) (space : List Figures)
       → Walked inlet leads i space
       → (l k : ℕ)
       → l < leads
@@ -106,7 +106,7 @@ module _
 
   -- other inlets, in another space: the sums that count are the same, and no figures kept have changed
   pub walked-moved :
-      (inlet inlet* : ℕ → Inlet) (leads i : ℕ) (space space* : List ℕ)
+      (inlet inlet* : ℕ → Inlet) (leads i : ℕ) (space space* : List Figures)
       → Walked inlet leads i space
       → ((l k : ℕ) → l < leads → (k ≡ 0) ⊎ (i < k) → sum_at inlet* l space* k ≡ sum_at inlet l space k)
       → ((l k : ℕ) → l < leads → k < i → Kept k → cell_at l space* k ≡ cell_at l space k)
@@ -124,7 +124,7 @@ module _
 
   -- the inlets of elements done do not count
   pub walked_same :
-      (inlet inlet* : ℕ → Inlet) (leads i : ℕ) (space : List ℕ)
+      (inlet inlet* : ℕ → Inlet) (leads i : ℕ) (space : List Figures)
       → Walked inlet leads i space
       → ((k : ℕ) → (k ≡ 0) ⊎ (i < k) → inlet* k ≡ inlet k)
       → Walked inlet* leads i space
@@ -133,7 +133,7 @@ module _
 
   -- the sums of number k are moved to row r, or begin there as nothing: in no other row that is in use anything changes
   pub walked-opened :
-      (inlet : ℕ → Inlet) (leads i k r : ℕ) (space space* : List ℕ)
+      (inlet : ℕ → Inlet) (leads i k r : ℕ) (space space* : List Figures)
       → Walked inlet leads i space
       → i < k
       → ((l : ℕ) → l < leads → row_at l space* r ≡ sum_at inlet l space k)
@@ -161,12 +161,12 @@ module _
   unfolding outflow network_outflow new_figures
   out-is l j = refl
 
-  row_is : (inlet : ℕ → Inlet) (l : ℕ) (space : List ℕ) {k r : ℕ} → inlet k ≡ row r → sum_at inlet l space k ≡ row_at l space r
+  row_is : (inlet : ℕ → Inlet) (l : ℕ) (space : List Figures) {k r : ℕ} → inlet k ≡ row r → sum_at inlet l space k ≡ row_at l space r
   unfolding network.inlet_at
   row_is inlet l space e = ap (inlet_at l space) e
 
   pub walked-small :
-      (inlet : ℕ → Inlet) (leads i : ℕ) (space : List ℕ)
+      (inlet : ℕ → Inlet) (leads i : ℕ) (space : List Figures)
       → Walked inlet leads i space
       → i < most_places
       → (d r : ℕ)
@@ -227,7 +227,7 @@ module _
     numbers-same l m above before = rw (of.own_part l m, of.weight, of.kind, of.noise, of.observation)
 
     module _
-        (again : (l j : ℕ) → old (suc l) j ≡ new_at l j) (first : Figures) (is : first ≡ old 0 i) (before : List ℕ)
+        (again : (l j : ℕ) → old (suc l) j ≡ new_at l j) (first : Figures) (is : first ≡ old 0 i) (before : List Figures)
         (inlet : ℕ → Inlet) (h : Walked inlet leads i before) (r : ℕ) (stands : inlet (i + 1) ≡ row r) where
       abbrev here : ℕ
       here = r * w + from
@@ -263,7 +263,7 @@ module _
 
       -- one element more
       module _
-          (d below : ℕ) (down : d ≡ network_down t i) (wide : from + leads ≤ w) (rows : TurnRows inlet i d r below) (after : List ℕ)
+          (d below : ℕ) (down : d ≡ network_down t i) (wide : from + leads ≤ w) (rows : TurnRows inlet i d r below) (after : List Figures)
           (g : LeadsDone c first here (below * w + from) leads before after) where
         new_is : (l : ℕ) → l < leads → figures_after c first (drained_at before here) (suc l) ≡ new_at l i
         new_is l m = after_same (suc l) m ∙ again l i

@@ -26,17 +26,17 @@ module _
     (t : TableValues) (own : ℕ → ℕ → Figures) (o : ℕ → (Option RatedReading)) (old : ℕ → ℕ → Figures) (w from : ℕ) (Kept : ℕ → Type 0)
     (at : ℕ → ℕ) where
   -- what stands in a row at a lead
-  abbrev pub row_at : ℕ → List ℕ → ℕ → Figures
+  abbrev pub row_at : ℕ → List Figures → ℕ → Figures
   row_at l space r = figures_at space (r * w + from + l)
 
-  abbrev pub cell_at : ℕ → List ℕ → ℕ → Figures
+  abbrev pub cell_at : ℕ → List Figures → ℕ → Figures
   cell_at l space k = row_at l space (at k)
 
-  unfoldable pub inlet_at : ℕ → List ℕ → Inlet → Figures
+  unfoldable pub inlet_at : ℕ → List Figures → Inlet → Figures
   inlet_at l space (row r) = row_at l space r
   inlet_at l space closed = no_inflow
 
-  abbrev pub sum_at : (ℕ → Inlet) → ℕ → List ℕ → ℕ → Figures
+  abbrev pub sum_at : (ℕ → Inlet) → ℕ → List Figures → ℕ → Figures
   sum_at inlet l space k = inlet_at l space (inlet k)
 
   abbrev pub new_at : ℕ → ℕ → Figures
@@ -45,11 +45,11 @@ module _
   abbrev pub numbers_at : ℕ → ℕ → List ℕ
   numbers_at l = network_numbers t (own l) o (old l)
 
-  abbrev pub HeldAt : (ℕ → Inlet) → ℕ → List ℕ → ℕ → Type 0
+  abbrev pub HeldAt : (ℕ → Inlet) → ℕ → List Figures → ℕ → Type 0
   HeldAt inlet l = Held Kept (cell_at l) (sum_at inlet l) no_inflow joined_inflow (network_down t) (network_cell t (own l) o) network_outflow (old l)
 
   -- the first i elements are worked out at all leads
-  pub record Walked (inlet : ℕ → Inlet) (leads i : ℕ) (space : List ℕ) : Type 0 where
+  pub record Walked (inlet : ℕ → Inlet) (leads i : ℕ) (space : List Figures) : Type 0 where
     pub held : (l : ℕ) → l < leads → HeldAt inlet l space i
     pub old_fits : (l j : ℕ) → l < leads → j < i → FiguresFit (old l j)
     pub fits : (l j : ℕ) → l < leads → j < i → FiguresFit (new_at l j)

@@ -18,31 +18,31 @@ abbrev pub Apart : ℕ → ℕ → ℕ → Type 0
 Apart here below leads = (here + leads ≤ below) ⊎ (below + leads ≤ here)
 
 -- the places of the leads of an element and of the one below it
-pub record LeadPlaces (here below leads : ℕ) (space : List ℕ) : Type 0 where
+pub record LeadPlaces (here below leads : ℕ) (space : List Figures) : Type 0 where
   pub short : leads ≤ most_leads
-  pub here_room : 4 * (here + leads) ≤ length space
-  pub below_room : 4 * (below + leads) ≤ length space
+  pub here_room : here + leads ≤ length space
+  pub below_room : below + leads ≤ length space
   pub apart : Apart here below leads
   pub small : (l : ℕ) → l < leads → FiguresBelow (figures_at space (below + l)) most_sum_before
 
-pub record LeadsReady (c : ElementInput) (first : Figures) (here below leads : ℕ) (space : List ℕ) : Type 0 where
+pub record LeadsReady (c : ElementInput) (first : Figures) (here below leads : ℕ) (space : List Figures) : Type 0 where
   pub in_range : InputInRange c
   pub nothing : c.observation ≡ None
   pub fits : FiguresFit first
   pub places : LeadPlaces here below leads space
 
 -- of a tank, which may be observed
-pub record TankReady (c : ElementInput) (first : Figures) (here below leads : ℕ) (space : List ℕ) : Type 0 where
+pub record TankReady (c : ElementInput) (first : Figures) (here below leads : ℕ) (space : List Figures) : Type 0 where
   pub in_range : InputInRange c
   pub fits : FiguresFit first
   pub places : LeadPlaces here below leads space
 
 -- what drains into the element at each lead
-abbrev pub drained_at : List ℕ → ℕ → ℕ → Figures
+abbrev pub drained_at : List Figures → ℕ → ℕ → Figures
 drained_at space here l = figures_at space (here + l)
 
 -- the first m leads are worked out
-pub record LeadsDone (c : ElementInput) (first : Figures) (here below m : ℕ) (before after : List ℕ) : Type 0 where
+pub record LeadsDone (c : ElementInput) (first : Figures) (here below m : ℕ) (before after : List Figures) : Type 0 where
   pub under : some_passes (numbers_after c first (drained_at before here) m) ≡ false
   pub fits : (l : ℕ) → l ≤ m → FiguresFit (figures_after c first (drained_at before here) l)
   pub placed : (l : ℕ) → l < m → figures_at after (here + l) ≡ figures_after c first (drained_at before here) (suc l)
@@ -59,6 +59,6 @@ pub record LeadsDone (c : ElementInput) (first : Figures) (here below m : ℕ) (
       → figures_at after p ≡ figures_at before p
 
 -- all leads of the element, or 16
-pub record ElementWorked (r : Result Unit Refusal) (c : ElementInput) (first : Figures) (here below leads : ℕ) (before after : List ℕ) : Type 0 where
+pub record ElementWorked (r : Result Unit Refusal) (c : ElementInput) (first : Figures) (here below leads : ℕ) (before after : List Figures) : Type 0 where
   pub verdict : answer_of r ≡ under_ceiling (numbers_after c first (drained_at before here) leads) tt
   pub done : r ≡ (Ok tt) → LeadsDone c first here below leads before after

@@ -20,7 +20,7 @@ fn store_element(
     here: usize,
     below: usize,
     leads: usize,
-    space: &mut [u64],
+    space: &mut [Figures],
 ) -> Result<(), Refusal>
     requires { LeadsReady input first here below leads space.old × (input.element.kind ≢ dam) }
     ensures { ElementWorked result input first here below leads space.old space.new }
@@ -44,7 +44,7 @@ fn hold_dam(
     here: usize,
     below: usize,
     leads: usize,
-    space: &mut [u64],
+    space: &mut [Figures],
 )
     requires { LeadsReady input first here below leads space.old × (input.element.kind ≡ dam) }
     ensures { LeadsDone input first here below leads space.old space.new }
@@ -62,7 +62,7 @@ pub fn work_element(
     here: usize,
     below: usize,
     leads: usize,
-    space: &mut [u64],
+    space: &mut [Figures],
 ) -> Result<(), Refusal>
     requires { LeadsReady input first here below leads space.old }
     ensures { ElementWorked result input first here below leads space.old space.new }
@@ -87,7 +87,7 @@ pub fn store_tank(
     here: usize,
     below: usize,
     leads: usize,
-    space: &mut [u64],
+    space: &mut [Figures],
 ) -> Result<(), Refusal>
     requires { TankReady (tank_input noise weight observation) first here below leads space.old }
     ensures { ElementWorked result (tank_input noise weight observation) first here below leads space.old space.new }

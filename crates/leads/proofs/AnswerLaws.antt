@@ -9,7 +9,7 @@ use mathlib.Core.Path.{◌≡◌, sym, ap, ◌∙◌}
 use native.Mathlib.Nat.{mul-le-mul, mul-le-mul_left, mul-le-mul_right}
 use native.Mathlib.Omega.{arith}
 use lib.ListN.{length, take, drop, length-drop}
-use lib.Seq.{paste, take_all, take-append-le, drop-append-le}
+use lib.Seq.{length-take-le, take-append-le, drop-append-le}
 use Rattle.sizes.specs.Sizes.{most_elements, most_leads, answer_numbers}
 use Rattle.refusal.specs.Refusals.{number}
 use Rattle.refusal.specs.Answers.{accepted, refused}
@@ -29,12 +29,14 @@ use Rattle.state.proofs.BoundsLaws.{state-bounds}
 use Rattle.element_weights.specs.Weights.{WeightsHeld}
 use Rattle.network.specs.Forecast.{lead_figures, lead_numbers}
 use Rattle.network.specs.Answer.{forecast_figures, space_fits, leads_answer}
-use Rattle.network.specs.Lent.{layout, Lent}
-use Rattle.network.proofs.LayoutLaws.{layout-length, by-lead-length}
+use Rattle.method.specs.Figures.{layout}
+use Rattle.network.specs.Lent.{Lent}
+use Rattle.method.proofs.LayoutLaws.{layout-length}
+use Rattle.network.proofs.LayoutLaws.{by-lead-length}
 use Rattle.network.proofs.LentLaws.{space-refused, space-accepted, ceiling-refused, written-accepted, written-refused, none-copied, all-copied}
 use Rattle.answer_space.specs.Places.{figures_at}
 use Rattle.network_leads.specs.Worked.{Given, spare_rows, space_size, LeadsHeld, LeadsWorked}
-use Rattle.leads.specs.Held.{answer_size, ForecastGiven, Copied, ForecastHeld}
+use Rattle.leads.specs.Held.{answer_places, answer_size, ForecastGiven, Copied, ForecastHeld}
 use Rattle.leads.proofs.LayoutLaws.{figures-after, answer-laid}
 
 -- ---- what is given, and the numbers that a river needs
@@ -59,12 +61,12 @@ module _ {bytes : List ℕ} {n L T : ℕ} {s : State} (g : ForecastGiven bytes n
   pub with-weights : {weight : List ℕ} → WeightsHeld (table_in bytes) weight → Given bytes n L weight s
   with-weights w = record { table = g.table; elements = g.elements; leads = g.leads; weights = w; state = g.state }
 
-  -- a space has the numbers of two leads of each element
-  pub elements-few : {room : ℕ} → space_size (table_in bytes) ≤ room → 8 * ((table_in bytes).elements + 1) ≤ room
+  -- a space has the places of two leads of each element
+  pub elements-few : {room : ℕ} → space_size (table_in bytes) ≤ room → 2 * ((table_in bytes).elements + 1) ≤ room
   elements-few l =
       let t = table_in bytes in
       let more : t.elements + 1 ≤ t.elements + 1 + spare_rows t = omega arith in
-      omega (arith, l, mul-le-mul_right (t.leads + 1) more, mul-le-mul_left (4 * (t.elements + 1)) (two-leads t.leads g.table.bounds.leads_least))
+      omega (arith, l, mul-le-mul_right (t.leads + 1) more, mul-le-mul_left (t.elements + 1) (two-leads t.leads g.table.bounds.leads_least))
     where
       two-leads : (L : ℕ) → 1 ≤ L → 2 ≤ L + 1
       two-leads L h = omega arith
@@ -72,10 +74,10 @@ module _ {bytes : List ℕ} {n L T : ℕ} {s : State} (g : ForecastGiven bytes n
   pub answer-size : {needed : ℕ} → needed ≡ 4 * n * (L + 1) → needed ≡ answer_size (table_in bytes)
   answer-size h = h ∙ rw (g.elements, g.leads)
 
-  pub space-size : {room x : ℕ} → x ≡ extra_count (table_in bytes) → room ≡ 4 * (n + 1 + min x 7) * (L + 1) → room ≡ space_size (table_in bytes)
+  pub space-size : {room x : ℕ} → x ≡ extra_count (table_in bytes) → room ≡ (n + 1 + min x 7) * (L + 1) → room ≡ space_size (table_in bytes)
   space-size e h = h ∙ rw (g.elements, g.leads, e)
 
-  pub answer-start : 4 * (L + 1) ≡ 4 * ((table_in bytes).leads + 1)
+  pub answer-start : L + 1 ≡ (table_in bytes).leads + 1
   answer-start = rw g.leads
 
 pub answer_most : (n l : ℕ) → n ≤ most_elements → l ≤ most_leads → 4 * n * (l + 1) ≤ answer_numbers
@@ -83,38 +85,26 @@ answer_most n l few short =
     let next : l + 1 ≤ most_leads + 1 = omega (arith, short) in omega (arith, mul-le-mul few next)
 
 -- the space has the answer after the places of what leaves the river
-space-is : (t : TableValues) → 4 * (t.leads + 1) + answer_size t ≤ space_size t
+space-is : (t : TableValues) → t.leads + 1 + answer_places t ≤ space_size t
 space-is t =
     let more : t.elements + 1 ≤ t.elements + 1 + spare_rows t = omega arith in
     omega (arith, mul-le-mul_right (t.leads + 1) more)
 
 -- ---- what the space holds
 
-module _ (t : TableValues) (space : List ℕ) (room : space_size t ≤ length space) where
+module _ (t : TableValues) (space : List Figures) (room : space_size t ≤ length space) where
   -- the space without the places of what leaves the river
-  abbrev part : List ℕ
-  part = drop (4 * (t.leads + 1)) space
+  abbrev part : List Figures
+  part = drop (t.leads + 1) space
 
-  answer-there : answer_size t ≤ length part
-  answer-there = omega (arith, space-is t, length-drop (4 * (t.leads + 1)) space)
+  answer-there : answer_places t ≤ length part
+  answer-there = omega (arith, space-is t, length-drop (t.leads + 1) space)
 
-  -- as the code takes it
-  module _ {from : ℕ} (start : from ≡ 4 * (t.leads + 1)) where
-    part-is : take (length space - from) (drop from space) ≡ part
-    part-is = rw start (take_all (length space - 4 * (t.leads + 1)) part (omega (arith, length-drop (4 * (t.leads + 1)) space)))
-
-    pub part_room : {needed : ℕ} → needed ≡ answer_size t → needed ≤ length (take (length space - from) (drop from space))
-    part_room size = rw (part-is, size) answer-there
-
-  laid : (s : State) → LeadsHeld space t s → take (answer_size t) part ≡ layout (forecast_figures t s)
+  laid : (s : State) → LeadsHeld space t s → take (answer_places t) part ≡ forecast_figures t s
   unfolding forecast_figures
   laid s h =
-      ap (λ (k : ℕ). take k part) same
-      ∙ answer-laid part (λ i lead. lead_figures t s lead (last_cell t i)) t.elements (t.leads + 1) at (omega (arith, answer-there))
+      answer-laid part (λ i lead. lead_figures t s lead (last_cell t i)) t.elements (t.leads + 1) at answer-there
     where
-      same : answer_size t ≡ 4 * (t.elements * (t.leads + 1))
-      same = omega arith
-
       next : (i lead : ℕ) → t.leads + 1 + (i * (t.leads + 1) + lead) ≡ (i + 1) * (t.leads + 1) + lead
       next i lead = omega arith
 
@@ -127,13 +117,26 @@ module _ (t : TableValues) (space : List ℕ) (room : space_size t ≤ length sp
           figures-after space (t.leads + 1) (i * (t.leads + 1) + lead)
           ∙ (ap (figures_at space) (next i lead) ∙ h.at i lead l m)
 
-layout-size : (t : TableValues) (s : State) → length (layout (forecast_figures t s)) ≡ answer_size t
+  -- the answer, as the code takes it
+  module _ {n from : ℕ} (all : n ≡ t.elements) (start : from ≡ t.leads + 1) where
+    pub part_room : from + n * from ≤ length space
+    part_room = rw (all, start) (omega (arith, space-is t, room))
+
+    part-is : take (from + n * from - from) (drop from space) ≡ take (answer_places t) part
+    part-is = rw (all, start) (ap (λ (k : ℕ). take k part) (omega arith))
+
+    part-long : length (take (from + n * from - from) (drop from space)) ≡ answer_places t
+    part-long = rw part-is (length-take-le (answer_places t) part answer-there)
+
+    pub part_fits : {lent : ℕ} → answer_size t ≤ lent → 4 * length (take (from + n * from - from) (drop from space)) ≤ lent
+    part_fits fits = rw part-long (omega (arith, fits))
+
+figures-long : (t : TableValues) (s : State) → length (forecast_figures t s) ≡ answer_places t
 unfolding forecast_figures
-layout-size t s =
-    layout-length _ ∙ same (by-lead-length (λ i lead. lead_figures t s lead (last_cell t i)) t.elements (t.leads + 1))
-  where
-    same : {n : ℕ} → n ≡ t.elements * (t.leads + 1) → 4 * n ≡ answer_size t
-    same e = omega (arith, e)
+figures-long t s = by-lead-length (λ i lead. lead_figures t s lead (last_cell t i)) t.elements (t.leads + 1)
+
+layout-size : (t : TableValues) (s : State) → length (layout (forecast_figures t s)) ≡ answer_size t
+layout-size t s = omega (arith, layout-length (forecast_figures t s), figures-long t s)
 
 -- ---- rules 15 and 16, and the numbers copied
 
@@ -146,7 +149,7 @@ unfolding leads_answer space_fits
 too_small t s = space-refused (answer_size t) (lead_numbers t s t.leads) (forecast_figures t s)
 
 module _
-    (t : TableValues) (s : State) (out : List ℕ) (fits : answer_size t ≤ length out) {v : Result Unit Refusal} {space : List ℕ}
+    (t : TableValues) (s : State) (out : List ℕ) (fits : answer_size t ≤ length out) {v : Result Unit Refusal} {space : List Figures}
     (h : LeadsWorked v space t s) where
   -- a refusal is passed on
   pub not-copied : (answer : Result ℕ Refusal) {j : Refusal} → v ≡ Err j → IsErrAnd answer (λ (k : Refusal). k ≡ j) → Copied answer t s out out
@@ -157,23 +160,28 @@ module _
 
   -- all of the answer
   pub copied :
-      (room : space_size t ≤ length space) {from needed : ℕ} {after : List ℕ}
-      → from ≡ 4 * (t.leads + 1)
+      (room : space_size t ≤ length space) {n from needed : ℕ} {after : List ℕ}
+      → n ≡ t.elements
+      → from ≡ t.leads + 1
       → needed ≡ answer_size t
-      → after ≡ paste out 0 (take (length space - from) (drop from space)) needed
+      → after
+      ≡ layout (take (from + n * from - from) (drop from space))
+      ++ drop (4 * length (take (from + n * from - from) (drop from space))) out
       → v ≡ Ok tt
       → Copied (Ok needed) t s out after
   unfolding leads_answer space_fits
-  copied room {from} start size a e =
-      all-copied (answer_size t) (lead_numbers t s t.leads) (forecast_figures t s) out fits h.verdict
-      (take (length space - from) (drop from space)) (layout-size t s)
-      (rw (part-is t space room start) (laid t space room s (h.held e))) size a e size
+  copied room all start size a e =
+      all-copied (answer_size t) (lead_numbers t s t.leads) (forecast_figures t s) out fits h.verdict (layout-size t s)
+      (rw (part-is t space room all start ∙ laid t space room s (h.held e), long) at a) e size
+    where
+      long : 4 * length (forecast_figures t s) ≡ answer_size t
+      long = omega (arith, figures-long t s)
 
 -- ---- the answer where it was worked out
 
 -- the first numbers of the space after the call are those that were worked in
 module _
-    (t : TableValues) (s : State) (b : AcceptedBounds t) {v : Result Unit Refusal} (worked rest : List ℕ) (long : length worked ≡ space_size t)
+    (t : TableValues) (s : State) (b : AcceptedBounds t) {v : Result Unit Refusal} (worked rest : List Figures) (long : length worked ≡ space_size t)
     (h : LeadsWorked v worked t s) where
   fits : answer_size t ≤ answer_numbers
   fits = answer_most _ _ b.elements_most b.leads_most
@@ -190,21 +198,20 @@ module _
   held-accepted size e =
       record {
         count = ap accepted size ∙ written-accepted (layout-size t s) (answer-accepted e);
-        numbers =
+        figures =
             λ fs a.
-            rw (figures-are fs (sym a ∙ answer-accepted e), layout-size t s)
+            rw (figures-are fs (sym a ∙ answer-accepted e), figures-long t s)
             (first ∙ laid t worked (omega (arith, long)) s (h.held e));
       }
     where
       figures-are : (fs : List Figures) → accepted fs ≡ accepted (forecast_figures t s) → fs ≡ forecast_figures t s
       figures-are fs q = cc
 
-      first :
-          take (answer_size t) (drop (4 * (t.leads + 1)) (worked ++ rest)) ≡ take (answer_size t) (drop (4 * (t.leads + 1)) worked)
+      first : take (answer_places t) (drop (t.leads + 1) (worked ++ rest)) ≡ take (answer_places t) (drop (t.leads + 1) worked)
       first =
-          ap (take (answer_size t)) (drop-append-le (4 * (t.leads + 1)) worked rest (omega (arith, long, space-is t)))
-          ∙ take-append-le (answer_size t) (drop (4 * (t.leads + 1)) worked) rest
-          (omega (arith, long, space-is t, length-drop (4 * (t.leads + 1)) worked))
+          ap (take (answer_places t)) (drop-append-le (t.leads + 1) worked rest (omega (arith, long, space-is t)))
+          ∙ take-append-le (answer_places t) (drop (t.leads + 1) worked) rest
+          (omega (arith, long, space-is t, length-drop (t.leads + 1) worked))
 
   pub held-refused : (answer : Result ℕ Refusal) {j : Refusal} → v ≡ Err j → IsErrAnd answer (λ (k : Refusal). k ≡ j) → ForecastHeld answer (worked ++ rest) t s
   held-refused answer e passed =
@@ -212,5 +219,5 @@ module _
       rw (q.1, q.2)
       (record {
         count = written-refused (answer-refused e);
-        numbers = λ fs a. absurd (not-both a (answer-refused e));
+        figures = λ fs a. absurd (not-both a (answer-refused e));
       })

@@ -6,6 +6,9 @@ use native.Mathlib.Nat.{mul-le-mul_right}
 use native.Mathlib.Numerals.{add-one}
 use native.Mathlib.Omega.{arith}
 use lib.ListN.{length, take, get_or, get_or-append}
+use Rattle.method.specs.declared.Figures.{Figures}
+use Rattle.method.specs.Figures.{figure_numbers}
+use Rattle.method.specs.Inflow.{no_inflow}
 use Rattle.text.specs.Decimal.{decimal}
 use Rattle.text.specs.Lines.{line}
 use Rattle.text.specs.declared.TextSpace.{TextSpace}
@@ -15,7 +18,7 @@ use Rattle.text.proofs.PlacesLaws.{put-before, text-then, text-same, text-nothin
 use Rattle.lines.specs.Ceiling.{FiguresUnderCeiling}
 use Rattle.lines.specs.Printed.{joined, line_from, element_lines, answer_lines, refused_word, refusal_line}
 use Rattle.lines.specs.Ready.{ElementPut}
-use Rattle.lines.specs.Starts.{figures_from, line_after, lines_after}
+use Rattle.lines.specs.Starts.{line_after, lines_after}
 
 -- the three parts of a refusal's line
 pub refusal-put :
@@ -52,28 +55,28 @@ joined_same f g (suc n) h = rw (joined_same f g n (λ k l. h k (omega arith)), h
 
 -- the four figures end a line
 pub figures-put :
-    (numbers : List ℕ) (from : ℕ) {s t u v w : TextSpace}
-    → TextPut s (decimal (get_or numbers from 0) ++ 32 ∷ []) t
-    → TextPut t (decimal (get_or numbers (from + 1) 0) ++ 32 ∷ []) u
-    → TextPut u (decimal (get_or numbers (from + 2) 0) ++ 32 ∷ []) v
-    → TextPut v (decimal (get_or numbers (from + 3) 0) ++ 10 ∷ []) w
-    → TextPut s (line (figures_from numbers from)) w
+    (f : Figures) {s t u v w : TextSpace}
+    → TextPut s (decimal f.discharge.0 ++ 32 ∷ []) t
+    → TextPut t (decimal f.discharge_margin.0 ++ 32 ∷ []) u
+    → TextPut u (decimal f.variance.0 ++ 32 ∷ []) v
+    → TextPut v (decimal f.variance_margin.0 ++ 10 ∷ []) w
+    → TextPut s (line (figure_numbers f)) w
 unfolding line
-figures-put numbers from a b c d = text-same (simp append_assoc) (text-then a (text-then b (text-then c d)))
+figures-put f a b c d = text-same (simp append_assoc) (text-then a (text-then b (text-then c d)))
 
 -- each of the first figures is under the ceiling, where more of them are
-pub fewer-under : (numbers : List ℕ) (few many : ℕ) → few ≤ many → FiguresUnderCeiling numbers many → FiguresUnderCeiling numbers few
-fewer-under numbers few many h u = record { at = λ k l. u.at k (omega arith) }
+pub fewer-under : (figures : List Figures) (few many : ℕ) → few ≤ many → FiguresUnderCeiling figures many → FiguresUnderCeiling figures few
+fewer-under figures few many h u = record { at = λ k l. u.at k (omega arith) }
 
 -- the start of a line, its lead and its figures
 pub line-put :
-    (start : List ℕ) (lead from : ℕ) (numbers : List ℕ) {s t u v : TextSpace}
+    (start : List ℕ) (lead : ℕ) (f : Figures) {s t u v : TextSpace}
     → TextPut s start t
     → TextPut t (decimal lead ++ 32 ∷ []) u
-    → TextPut u (line (figures_from numbers from)) v
-    → TextPut s (line_after start lead numbers from) v
+    → TextPut u (line (figure_numbers f)) v
+    → TextPut s (line_after start lead f) v
 unfolding line_after
-line-put start lead from numbers p q r = text-then p (text-same (line-then lead _ _) (text-then q r))
+line-put start lead f p q r = text-then p (text-same (line-then lead _ _) (text-then q r))
 
 -- the lines of an element, whose start took what was put into it
 pub element-put :
@@ -95,39 +98,35 @@ element-put line_of lead leads {s} {t} {text = text} {start = start} p inside is
 
 -- a line that starts with the step count and the element
 line-starts :
-    (steps i lead from : ℕ) (numbers : List ℕ)
-    → line_after ((decimal steps ++ 32 ∷ []) ++ (decimal (i + 1) ++ 32 ∷ [])) lead numbers from ≡ line_from steps i lead numbers from
+    (steps i lead : ℕ) (f : Figures)
+    → line_after ((decimal steps ++ 32 ∷ []) ++ (decimal (i + 1) ++ 32 ∷ [])) lead f ≡ line_from steps i lead f
 unfolding line_after line_from
-line-starts steps i lead from numbers =
-    append_assoc (decimal steps ++ 32 ∷ []) (decimal (i + 1) ++ 32 ∷ []) (line (lead ∷ figures_from numbers from))
-    ∙ ap (λ l. (decimal steps ++ 32 ∷ []) ++ l) (line-then (i + 1) lead (figures_from numbers from))
-    ∙ line-then steps (i + 1) (lead ∷ figures_from numbers from)
+line-starts steps i lead f =
+    append_assoc (decimal steps ++ 32 ∷ []) (decimal (i + 1) ++ 32 ∷ []) (line (lead ∷ figure_numbers f))
+    ∙ ap (λ l. (decimal steps ++ 32 ∷ []) ++ l) (line-then (i + 1) lead (figure_numbers f))
+    ∙ line-then steps (i + 1) (lead ∷ figure_numbers f)
 
 pub lines_start :
-    (steps i leads : ℕ) (numbers start : List ℕ)
+    (steps i leads : ℕ) (figures : List Figures) (start : List ℕ)
     → start ≡ decimal steps ++ 32 ∷ []
-    → lines_after (start ++ (decimal (i + 1) ++ 32 ∷ [])) leads numbers i ≡ element_lines steps leads numbers i
+    → lines_after (start ++ (decimal (i + 1) ++ 32 ∷ [])) leads figures i ≡ element_lines steps leads figures i
 unfolding lines_after element_lines
-lines_start steps i leads numbers start e =
-    rw e (joined_same _ _ leads (λ lead h. line-starts steps i lead (4 * (i * leads + lead)) numbers))
+lines_start steps i leads figures start e =
+    rw e (joined_same _ _ leads (λ lead h. line-starts steps i lead (get_or figures (i * leads + lead) no_inflow)))
 
--- numbers after those of the answer are not printed
-module _ (steps leads elements : ℕ) (numbers behind : List ℕ) (enough : 4 * (elements * leads) ≤ length numbers) where
-  line_before : (i lead at : ℕ) → at + 4 ≤ length numbers → line_from steps i lead (numbers ++ behind) at ≡ line_from steps i lead numbers at
-  unfolding line_from
-  line_before i lead at h =
-      rw (
-        get_or-append numbers behind 0 at (omega arith),
-        get_or-append numbers behind 0 (at + 1) (omega arith),
-        get_or-append numbers behind 0 (at + 2) (omega arith),
-        get_or-append numbers behind 0 (at + 3) (omega arith),
-      )
+-- figures after those of the answer are not printed
+module _ (steps leads elements : ℕ) (figures behind : List Figures) (enough : elements * leads ≤ length figures) where
+  line_before :
+      (i lead at : ℕ)
+      → at < length figures
+      → line_from steps i lead (get_or (figures ++ behind) at no_inflow) ≡ line_from steps i lead (get_or figures at no_inflow)
+  line_before i lead at h = ap (line_from steps i lead) (get_or-append figures behind no_inflow at h)
 
-  element-before : (i : ℕ) → i < elements → element_lines steps leads (numbers ++ behind) i ≡ element_lines steps leads numbers i
+  element-before : (i : ℕ) → i < elements → element_lines steps leads (figures ++ behind) i ≡ element_lines steps leads figures i
   unfolding element_lines
   element-before i h =
-      joined_same _ _ leads (λ lead l. line_before i lead (4 * (i * leads + lead)) (omega (arith, rows-within i elements leads h)))
+      joined_same _ _ leads (λ lead l. line_before i lead (i * leads + lead) (omega (arith, rows-within i elements leads h)))
 
-  pub lines-before : answer_lines steps leads (numbers ++ behind) elements ≡ answer_lines steps leads numbers elements
+  pub lines-before : answer_lines steps leads (figures ++ behind) elements ≡ answer_lines steps leads figures elements
   unfolding answer_lines
   lines-before = joined_same _ _ elements element-before

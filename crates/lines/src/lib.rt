@@ -2,14 +2,16 @@
 #![tactic(auto)]
 
 ghost use Rattle.std.specs.Prelude.{[], ◌∷◌, ◌++◌, ◌≡◌, ◌+◌, ◌*◌, ◌≤◌, length, take};
+ghost use Rattle.method.specs.Figures.{figure_numbers};
 ghost use Rattle.text.specs.Decimal.{decimal};
 ghost use Rattle.text.specs.Lines.{line};
 ghost use Rattle.text.specs.Places.{TextPut};
 ghost use Rattle.lines.specs.Printed.{refusal_line, answer_lines};
 ghost use Rattle.lines.specs.Ready.{FiguresReady, LineReady, ElementReady, ElementPut, LinesReady};
-ghost use Rattle.lines.specs.Starts.{figures_from, line_after, lines_after};
+ghost use Rattle.lines.specs.Starts.{line_after, lines_after};
 
 use figure_text::put_figure;
+use method::Figures;
 use std::simd::u8x32;
 use text::{DigitFours, TextSpace};
 
@@ -33,48 +35,47 @@ fn put_start(text: &mut TextSpace<'_>, start: &[u8], size: usize)
     text.at += size;
 }
 
-// The four figures from a place on, which end a line. Four calls, which are compiled into the loop over the lines.
-fn put_figures(text: &mut TextSpace<'_>, numbers: &[u64], from: usize, fours: &DigitFours)
-    requires { FiguresReady text.old numbers.now from }
-    ensures { TextPut text.old (line (figures_from numbers.now from)) text.new × (text.new.at ≤ text.old.at + 84) }
+// The four figures, which end a line. Four calls, which are compiled into the loop over the lines.
+fn put_figures(text: &mut TextSpace<'_>, figures: Figures, fours: &DigitFours)
+    requires { FiguresReady text.old figures }
+    ensures { TextPut text.old (line (figure_numbers figures)) text.new × (text.new.at ≤ text.old.at + 84) }
 {
-    put_figure(text, numbers[from] as u32, b' ', fours);
-    put_figure(text, numbers[from + 1] as u32, b' ', fours);
-    put_figure(text, numbers[from + 2] as u32, b' ', fours);
-    put_figure(text, numbers[from + 3] as u32, b'\n', fours);
+    put_figure(text, figures.discharge.0 as u32, b' ', fours);
+    put_figure(text, figures.discharge_margin.0 as u32, b' ', fours);
+    put_figure(text, figures.variance.0 as u32, b' ', fours);
+    put_figure(text, figures.variance_margin.0 as u32, b'\n', fours);
 }
 
-// The line at a lead, with the four figures from a place on.
+// The line at a lead, with its four figures.
 fn put_line(
     text: &mut TextSpace<'_>,
     start: &[u8],
     size: usize,
     lead: usize,
-    numbers: &[u64],
-    from: usize,
+    figures: Figures,
     fours: &DigitFours,
 )
-    requires { LineReady text.old start.now size lead numbers.now from }
-    ensures { TextPut text.old (line_after (take size start.now) lead numbers.now from) text.new × (text.new.at ≤ text.old.at + 147) }
+    requires { LineReady text.old start.now size lead figures }
+    ensures { TextPut text.old (line_after (take size start.now) lead figures) text.new × (text.new.at ≤ text.old.at + 147) }
 {
     put_start(text, start, size);
     text.put_small(lead as u32, b' ', fours);
-    put_figures(text, numbers, from, fours);
+    put_figures(text, figures, fours);
 }
 
-// The lines of element i, counted from 0, of a forecast's numbers. The start of a line says the step count already, up to a place, and
+// The lines of element i, counted from 0, of a forecast's figures. The start of a line says the step count already, up to a place, and
 // is given the element.
 fn put_element(
     text: &mut TextSpace<'_>,
-    numbers: &[u64],
+    figures: &[Figures],
     start: &mut [u8],
     size: usize,
     i: usize,
     leads: usize,
     fours: &DigitFours,
 )
-    requires { ElementReady text.old numbers.now start.old size i leads }
-    ensures { ElementPut text.old (lines_after (take size start.old ++ (decimal (i + 1) ++ 32 ∷ [])) leads numbers.now i) text.new leads size start.old start.new }
+    requires { ElementReady text.old figures.now start.old size i leads }
+    ensures { ElementPut text.old (lines_after (take size start.old ++ (decimal (i + 1) ++ 32 ∷ [])) leads figures.now i) text.new leads size start.old start.new }
 {
     let mut whole = TextSpace {
         bytes: &mut *start,
@@ -83,29 +84,21 @@ fn put_element(
     whole.put_small(i as u32 + 1, b' ', fours);
     let size = whole.at;
     for lead in 0..leads {
-        put_line(
-            text,
-            start,
-            size,
-            lead,
-            numbers,
-            4 * (i * leads + lead),
-            fours,
-        );
+        put_line(text, start, size, lead, figures[i * leads + lead], fours);
     }
 }
 
-// The lines of a forecast's numbers, by element and then lead.
+// The lines of a forecast's figures, by element and then lead.
 pub fn put_lines(
     text: &mut TextSpace<'_>,
-    numbers: &[u64],
+    figures: &[Figures],
     steps: u64,
     elements: usize,
     leads: usize,
     fours: &DigitFours,
 )
-    requires { LinesReady text.old numbers.now elements leads }
-    ensures { TextPut text.old (answer_lines steps leads numbers.now elements) text.new × (text.new.at ≤ text.old.at + 147 * (elements * leads)) }
+    requires { LinesReady text.old figures.now elements leads }
+    ensures { TextPut text.old (answer_lines steps leads figures.now elements) text.new × (text.new.at ≤ text.old.at + 147 * (elements * leads)) }
 {
     let mut start = [0u8; 32];
     let mut steps_put = TextSpace {
@@ -120,7 +113,7 @@ pub fn put_lines(
         at: text.at,
     };
     for i in 0..elements {
-        put_element(&mut lines, numbers, &mut start, size, i, leads, fours);
+        put_element(&mut lines, figures, &mut start, size, i, leads, fours);
     }
     text.at = lines.at;
 }

@@ -1,4 +1,5 @@
 -- Laws of the table and of a record, answered where they lie in the program's buffers.
+use Rattle.method.specs.declared.Figures.{Figures}
 use Rattle.std.specs.Prelude.{Result, Ok, Err}
 use Prim.Native.Nat.{ℕ, zero, suc, ◌-◌, ◌≤◌, ◌<◌}
 use mathlib.Core.Bool.{Bool, true, false}
@@ -219,7 +220,7 @@ module _
 
   -- what a record relies on
   pub due-ready :
-      (space : List ℕ) (text : TextSpace)
+      (space : List Figures) (text : TextSpace)
       → WorkingSpace space
       → text.bytes.now ≡ out
       → text.at ≡ p.at
@@ -235,7 +236,7 @@ module _
       }
 
   module _
-      (space : List ℕ) (lent : WorkingSpace space) (size : ℕ) (r : Bool) (after : State) (before end : TextSpace) (text : List ℕ)
+      (space : List Figures) (lent : WorkingSpace space) (size : ℕ) (r : Bool) (after : State) (before end : TextSpace) (text : List ℕ)
       (some : p.from ≡ p.have → ⊥) (e : RecordEnd (unused_in p input) size)
       (a : Reported r before end after (record_on_printed (table_in (take p.length table)) (take size (unused_in p input)) state))
       (b : before.bytes.now ≡ out) (at : before.at ≡ p.at) (is : text ≡ end.bytes.now) where

@@ -1,7 +1,8 @@
 -- Serves the code: what lies in the program's buffers between two calls of the machine.
 use Prim.{Unit}
+use Rattle.method.specs.declared.Figures.{Figures}
 use Rattle.std.specs.Prelude.{ℕ, ◌+◌, ◌≤◌, ◌<◌, true, false, List, ◌≡◌, length, take}
-use Rattle.sizes.specs.Sizes.{most_elements, state_numbers, table_bytes, forecast_space, text_bytes, input_buffer, text_buffer}
+use Rattle.sizes.specs.Sizes.{most_elements, state_numbers, table_bytes, forecast_places, text_bytes, input_buffer, text_buffer}
 use Rattle.refusal.specs.Answers.{accepted}
 use Rattle.table.specs.declared.Counts.{Counts}
 use Rattle.table.specs.Rules.{table_rules}
@@ -36,8 +37,8 @@ pub record BuffersFit (p : Progress) (input table weights : List ℕ) (state : S
   pub started : p.judged ≡ true → 0 < p.left → Started (take p.length table) p.counts weights state
 
 -- working space for a forecast
-pub record WorkingSpace (space : List ℕ) : Type 0 where
-  pub space_whole : length space ≡ forecast_space
+pub record WorkingSpace (space : List Figures) : Type 0 where
+  pub space_whole : length space ≡ forecast_places
 
 -- a table is to be answered, and there is room for the text
 pub record TableDue (p : Progress) : Type 0 where

@@ -6,6 +6,7 @@ ghost use Rattle.machine.specs.Buffers.{BuffersFit, WorkingSpace, TableDue, Reco
 ghost use Rattle.machine.specs.Turns.{HeldAnswered, Turned};
 
 use input_parts::{record_length, wants_more};
+use method::Figures;
 use progress::{
     Progress, after_record, after_refusal, after_stop, after_table, after_write, has_ended,
     moved_front, text_due,
@@ -70,7 +71,7 @@ fn next_answered(
     table: &[u8],
     weights: &[u64],
     state: &mut [u64; STATE_NUMBERS],
-    space: &mut [u64],
+    space: &mut [Figures],
     fours: &DigitFours,
     out: &mut [u8],
 ) -> Progress
@@ -106,7 +107,7 @@ fn answered(
     table: &mut [u8],
     weights: &mut [u64],
     state: &mut [u64; STATE_NUMBERS],
-    space: &mut [u64],
+    space: &mut [Figures],
     fours: &DigitFours,
     out: &mut [u8],
 ) -> Progress
@@ -127,7 +128,7 @@ pub fn proceed(
     table: &mut [u8],
     weights: &mut [u64],
     state: &mut [u64; STATE_NUMBERS],
-    space: &mut [u64],
+    space: &mut [Figures],
     fours: &DigitFours,
     out: &mut [u8],
 ) -> Turn

@@ -1,3 +1,4 @@
 pub mod FiguresLaws
 pub mod InflowLaws
 pub mod OrderLaws
+pub mod LayoutLaws

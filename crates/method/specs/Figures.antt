@@ -26,6 +26,11 @@ figures q v =
 abbrev pub figure_numbers : Figures → List ℕ
 figure_numbers f = f.discharge.0 ∷ f.discharge_margin.0 ∷ f.variance.0 ∷ f.variance_margin.0 ∷ []
 
+-- of several, one after the other, as an answer hands them out: "discharge, margin, variance, variance margin"
+unfoldable pub layout : List Figures → List ℕ
+layout [] = []
+layout (f ∷ fs) = f.discharge.0 ∷ f.discharge_margin.0 ∷ f.variance.0 ∷ f.variance_margin.0 ∷ layout fs
+
 -- what callers may rely on: no number passes the ceiling
 pub record FiguresFit (f : Figures) : Type 0 where
   pub discharge : f.discharge.0 ≤ C

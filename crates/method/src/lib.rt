@@ -21,6 +21,14 @@ pub struct Figures {
 }
 
 impl Figures {
+    // Of nothing: the sums of an inflow before anything drains in.
+    pub const NONE: Figures = Figures {
+        discharge: Discharge(0),
+        discharge_margin: Discharge(0),
+        variance: Variance(0),
+        variance_margin: Variance(0),
+    };
+
     // The figures of a discharge and a variance, or the refusal of a number that passes the ceiling.
     #[tactic(auto, unfolding(crate::specs::Inflow::inflow_answer, crate::specs::Inflow::inflow_numbers, crate::specs::Figures::AnsweredFiguresFit, units::specs::Ceiling::under_ceiling, units::specs::Ceiling::some_passes))]
     pub fn new(q: Estimate, v: Estimate) -> Result<Figures, Refusal>

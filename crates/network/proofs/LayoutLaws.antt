@@ -1,4 +1,4 @@
--- Lists by element and lead, and their figures laid out as numbers.
+-- Lists by element and lead.
 use Prim.Native.Nat.{ℕ, zero, suc, ◌*◌}
 use mathlib.Core.List.{List, [], ◌∷◌, ◌++◌}
 use mathlib.Core.Path.{◌≡◌, refl}
@@ -6,17 +6,6 @@ use native.Mathlib.Omega.{arith}
 use lib.ListN.{length, length-append}
 use Rattle.method.specs.declared.Figures.{Figures}
 use Rattle.network.specs.Answer.{listed, by_element_and_lead}
-use Rattle.network.specs.Lent.{layout}
-
-pub layout-append : (fs gs : List Figures) → layout (fs ++ gs) ≡ layout fs ++ layout gs
-unfolding layout
-layout-append [] gs = refl
-layout-append (f ∷ fs) gs = rw (layout-append fs gs)
-
-pub layout-length : (fs : List Figures) → length (layout fs) ≡ 4 * length fs
-unfolding layout
-layout-length [] = refl
-layout-length (f ∷ fs) = omega (arith, layout-length fs)
 
 -- how many places the lists have
 module _ {A : Type 0} where

@@ -1,14 +1,12 @@
--- Laws of an answer that is written into lent space: rules 15 and 16, and the numbers copied.
+-- Laws of an answer that is written into lent space: rules 15 and 16, and the figures laid out.
 use Rattle.std.specs.Prelude.{Result, Ok, Err}
 use Prim.{Unit}
 use Prim.Native.Nat.{ℕ, ◌≤◌, ◌<◌}
-use mathlib.Core.List.{List}
+use mathlib.Core.List.{List, ◌++◌}
 use mathlib.Core.Path.{◌≡◌, refl, sym, ap, subst, ◌∙◌}
 use borrow.Author.Tests.{le-leb, lt-leb}
-use native.Mathlib.Nat.{zero-add}
 use lib.Dec.{leb}
-use lib.ListN.{length, take}
-use lib.Seq.{paste}
+use lib.ListN.{length, drop}
 use Rattle.refusal.specs.Refusals.{number}
 use Rattle.refusal.specs.Answers.{Answer, accepted, refused, rule, answer_of}
 use Rattle.refusal.specs.declared.Refusal.{Refusal}
@@ -18,7 +16,8 @@ use Rattle.units.proofs.CeilingLaws.{same-accepted, same-refused-number}
 use Rattle.method.specs.declared.Figures.{Figures}
 use Rattle.table.specs.Rules.{table_rules}
 use Rattle.table.proofs.TableLaws.{rules-accepted, rules-refused}
-use Rattle.network.specs.Lent.{layout, count_written, lent_after, Lent}
+use Rattle.method.specs.Figures.{layout}
+use Rattle.network.specs.Lent.{count_written, lent_after, Lent}
 
 -- a refusal writes nothing
 pub lent-refused :
@@ -61,19 +60,16 @@ pub written-refused : {answer : Answer (List Figures)} {k : ℕ} → answer ≡ 
 unfolding count_written
 written-refused e = rw e
 
--- figures that stand in a part of a space, copied
+-- figures laid out at the beginning of lent space
 pub figures-lent :
-    (out part : List ℕ) {answer : Answer (List Figures)} {fs : List Figures} {after : List ℕ} {size needed count : ℕ}
+    (out : List ℕ) {answer : Answer (List Figures)} {fs : List Figures} {after : List ℕ} {size count : ℕ}
     → answer ≡ accepted fs
     → length (layout fs) ≡ size
-    → take size part ≡ layout fs
-    → needed ≡ size
-    → after ≡ paste out 0 part needed
+    → after ≡ layout fs ++ drop size out
     → count ≡ size
     → Lent (Ok count) after answer out
 unfolding lent_after
-figures-lent out part {size = size} k long laid is a all =
-    record { count = ap accepted all ∙ written-accepted long k; numbers = a ∙ rw (is, k, laid, long, zero-add size) }
+figures-lent out k long a all = record { count = ap accepted all ∙ written-accepted long k; numbers = a ∙ rw (k, long) }
 
 -- figures that take so many numbers, with the numbers that 16 judges
 module _ (size : ℕ) (ns : List ℕ) (fs : List Figures) where
@@ -98,12 +94,10 @@ module _ (size : ℕ) (ns : List ℕ) (fs : List Figures) where
     none-copied {j} e = lent-refused out _ j (ceiling-refused (length out) fits decided e)
 
     pub all-copied :
-        (part : List ℕ) {after : List ℕ} {needed count : ℕ}
+        {after : List ℕ} {count : ℕ}
         → length (layout fs) ≡ size
-        → take size part ≡ layout fs
-        → needed ≡ size
-        → after ≡ paste out 0 part needed
+        → after ≡ layout fs ++ drop size out
         → v ≡ Ok tt
         → count ≡ size
         → Lent (Ok count) after (space_answer (length out)) out
-    all-copied part long laid is a e all = figures-lent out part (space-accepted (length out) fits decided e) long laid is a all
+    all-copied long a e all = figures-lent out (space-accepted (length out) fits decided e) long a all

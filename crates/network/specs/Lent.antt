@@ -1,14 +1,10 @@
 -- Document 01, Numbers for no: "Where an answer is written into lent space, the count written is part of the answer and what
 -- lies after it stays."
 use Rattle.refusal.specs.declared.Refusal.{Refusal}
-use Rattle.std.specs.Prelude.{ℕ, List, [], ◌∷◌, ◌++◌, ◌≡◌, length, drop, Result}
+use Rattle.std.specs.Prelude.{ℕ, List, ◌++◌, ◌≡◌, length, drop, Result}
 use Rattle.refusal.specs.Answers.{Answer, accepted, refused, answer_of}
 use Rattle.method.specs.declared.Figures.{Figures}
-
--- "discharge, margin, variance, variance margin"
-unfoldable pub layout : List Figures → List ℕ
-layout [] = []
-layout (f ∷ fs) = f.discharge.0 ∷ f.discharge_margin.0 ∷ f.variance.0 ∷ f.variance_margin.0 ∷ layout fs
+use Rattle.method.specs.Figures.{layout}
 
 unfoldable pub count_written : Answer (List Figures) → Answer ℕ
 count_written (accepted fs) = accepted (length (layout fs))

@@ -11,7 +11,7 @@ use native.Mathlib.Nat.{mul-le-mul_right, eq-or-lt_of_le}
 use native.Mathlib.Decide.{dec_le}
 use native.Mathlib.Omega.{arith}
 use lib.ListN.{length, get_or}
-use Rattle.sizes.specs.Sizes.{most_elements, most_places, most_leads, forecast_space}
+use Rattle.sizes.specs.Sizes.{most_elements, most_places, most_leads, forecast_places}
 use Rattle.refusal.specs.declared.Refusal.{Refusal}
 use Rattle.units.proofs.UnderLaws.{refused-part}
 use Rattle.method.specs.declared.Figures.{Figures}
@@ -54,7 +54,7 @@ use Rattle.elements.proofs.KindLaws.{eq-same}
 
 -- as the code has it once the figures f of its last are put
 module _
-    {bytes : List ℕ} {n i x L H : ℕ} {s : State} {before : List ℕ} (g : TanksReady bytes n i x L H s before) where
+    {bytes : List ℕ} {n i x L H : ℕ} {s : State} {before : List Figures} (g : TanksReady bytes n i x L H s before) where
   abbrev t : TableValues
   t = table_in bytes
 
@@ -88,25 +88,25 @@ module _
   spare : extra ≤ spare_rows t
   spare = omega (arith, some, all-extra)
 
-  before-there : (k : ℕ) → k ≤ t.elements + spare_rows t → 4 * (k * w + w) ≤ length before
+  before-there : (k : ℕ) → k ≤ t.elements + spare_rows t → k * w + w ≤ length before
   before-there k l = row-there t L g.leads before g.room k l
 
   -- all rows are below the largest space
-  row-most : (k : ℕ) → k ≤ t.elements + spare_rows t → k * w ≤ forecast_space
+  row-most : (k : ℕ) → k ≤ t.elements + spare_rows t → k * w ≤ forecast_places
   row-most k l =
       let m : k ≤ t.elements + 1 + 7 = omega (arith, l) in
       omega (arith, mul-le-mul_right w m, space_most t.elements 7 L g.table.bounds.elements_most (omega arith) few-leads)
 
-  pub own-most : (i + 1) * w ≤ forecast_space
+  pub own-most : (i + 1) * w ≤ forecast_places
   own-most = row-most (i + 1) (omega (arith, used))
 
-  pub own-there : 4 * ((i + 1) * w) + 3 < length before
+  pub own-there : ((i + 1) * w) < length before
   own-there = omega (arith, before-there (i + 1) (omega (arith, used)))
 
-  pub first-most : (n + 1) * w ≤ forecast_space
+  pub first-most : (n + 1) * w ≤ forecast_places
   first-most = rw g.elements (row-most (t.elements + 1) (omega (arith, some, spare)))
 
-  pub below-most : {d : ℕ} → d ≡ (element_at bytes i).down → d * w ≤ forecast_space
+  pub below-most : {d : ℕ} → d ≡ (element_at bytes i).down → d * w ≤ forecast_places
   below-most q =
       rw (q ∙ ap (λ (y : Element). y.down) (sym (element-read bytes i used))) (row-most (t.element i).down (omega (arith, bounds.down)))
 
@@ -114,14 +114,14 @@ module _
   tank-known =
       (element-there bytes g.table used, omega (arith, tanks-known bytes g.table used (sym (ap (λ (y : Element). y.kind) (element-read bytes i used)) ∙ g.kind)))
 
-  module _ {f : Figures} {space : List ℕ} (first : f ≡ figures_of s i) (placed : space ≡ put before ((i + 1) * (L + 1)) f) where
+  module _ {f : Figures} {space : List Figures} (first : f ≡ figures_of s i) (placed : space ≡ put before ((i + 1) * (L + 1)) f) where
     is : f ≡ lead_figures t s 0 (last_cell t i)
     is = first-is t s i f used first
 
     length-kept : length space ≡ length before
     length-kept = rw placed (put-length before ((i + 1) * w) f)
 
-    there : (k : ℕ) → k ≤ t.elements + spare_rows t → 4 * (k * w + w) ≤ length space
+    there : (k : ℕ) → k ≤ t.elements + spare_rows t → k * w + w ≤ length space
     there k l = omega (arith, before-there k l, length-kept)
 
     held : LeadsSoFar t s L (i + 1) i space
@@ -196,7 +196,7 @@ module _
           same : e ≡ extra
           same = read ∙ (ap (λ (y : Element). y.runoff - 1) (sym (element-read bytes i used)) ∙ sym extra-is)
 
-      module _ {r : Result Unit Refusal} {worked : List ℕ} {e : ℕ} (read : e ≡ (element_at bytes i).runoff - 1) (opened : TanksOpened r noise H e x places s space worked) where
+      module _ {r : Result Unit Refusal} {worked : List Figures} {e : ℕ} (read : e ≡ (element_at bytes i).runoff - 1) (opened : TanksOpened r noise H e x places s space worked) where
         opened-at :
             TanksOpened r noise H extra (t.elements + extra_before t i)
             (record { own = (i + 1) * w + 1; first = (t.elements + 1) * w + 1; width = w; leads = L }) s space worked
@@ -208,7 +208,7 @@ module _
 
         -- a number passes in one of them, and its refusal is passed on
         pub tanks-above :
-            {answer : Result Unit Refusal} {k : Refusal} {after : List ℕ}
+            {answer : Result Unit Refusal} {k : Refusal} {after : List Figures}
             → r ≡ Err k
             → IsErrAnd answer (λ (e : Refusal). e ≡ k)
             → TanksDone answer t s L i after
@@ -260,7 +260,7 @@ module _
           kept-first k l = tanks-stay t L i k opened-at a ∙ held.first k l
 
           pub last_done :
-              {v : Result Unit Refusal} {d : ℕ} {after : List ℕ}
+              {v : Result Unit Refusal} {d : ℕ} {after : List Figures}
               → d ≡ (element_at bytes i).down
               → ElementWorked v (tank_input noise H None) f ((i + 1) * w + 1) (d * w + 1) L worked after
               → TanksDone v t s L i after
@@ -281,14 +281,14 @@ module _
 -- ---- the runs, and the elements of tanks between them
 
 -- what the loop over the runs holds: the elements before one are worked out, and the others of their tanks stand in the state before place x
-pub record RunsSoFar (t : TableValues) (s : State) (L n from x : ℕ) (begun space : List ℕ) : Type 0 where
+pub record RunsSoFar (t : TableValues) (s : State) (L n from x : ℕ) (begun : List Figures) (space : List Figures) : Type 0 where
   pub few : from ≤ n
   pub places : x ≡ n + extra_before t from
   pub size : length space ≡ length begun
   pub held : LeadsSoFar t s L from from space
 
 module _
-    {bytes : List ℕ} {n L : ℕ} {weight : List ℕ} {s : State} {begun : List ℕ} (g : Given bytes n L weight s) (first : Cleared (table_in bytes) begun) where
+    {bytes : List ℕ} {n L : ℕ} {weight : List ℕ} {s : State} {begun : List Figures} (g : Given bytes n L weight s) (first : Cleared (table_in bytes) begun) where
   pub runs-begun : RunsSoFar (table_in bytes) s L n 0 n begun begun
   runs-begun =
       record {
@@ -298,9 +298,9 @@ module _
         held = worked-begin _ _ _ _ first.empty;
       }
 
-  module _ {from x : ℕ} {before : List ℕ} (h : RunsSoFar (table_in bytes) s L n from x begun before) where
+  module _ {from x : ℕ} {before : List Figures} (h : RunsSoFar (table_in bytes) s L n from x begun before) where
     -- a run ended at element i, one of tanks
-    module _ {i : ℕ} {space : List ℕ} (next : TanksNext (table_in bytes) s L from i space) where
+    module _ {i : ℕ} {space : List Figures} (next : TanksNext (table_in bytes) s L from i space) where
       read : (table_in bytes).element i ≡ element_at bytes i
       read = element-read bytes i next.used
 
@@ -344,7 +344,7 @@ module _
             omega (arith, next-places, g.elements, g.table.bounds.places_most, extra-rise (table_in bytes) (i + 1) (table_in bytes).elements (omega (arith, next.used)))
 
         pub runs-again :
-            {v : Result Unit Refusal} {after : List ℕ}
+            {v : Result Unit Refusal} {after : List Figures}
             → TanksDone v (table_in bytes) s L i after
             → v ≡ (Ok tt)
             → length space ≡ length before

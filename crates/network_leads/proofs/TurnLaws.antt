@@ -10,7 +10,7 @@ use mathlib.Core.Path.{◌≡◌, refl, sym, ap, subst, ◌∙◌}
 use native.Mathlib.Nat.{mul-le-mul_right}
 use native.Mathlib.Omega.{arith}
 use lib.ListN.{length, get_or}
-use Rattle.sizes.specs.Sizes.{most_leads, forecast_space}
+use Rattle.sizes.specs.Sizes.{most_leads, forecast_places}
 use Rattle.refusal.specs.Answers.{refused, answer_of}
 use Rattle.refusal.specs.declared.Refusal.{Refusal}
 use Rattle.units.specs.Units.{C, S}
@@ -65,11 +65,11 @@ unfolding lead_input
 made-element e weight count s i c h = ap (λ (x : ElementInput). x.element) h
 
 -- the rows of the space
-module _ (t : TableValues) (L : ℕ) (all : L ≡ t.leads) (space : List ℕ) (room : space_size t ≤ length space) where
-  pub row-there : (k : ℕ) → k ≤ t.elements + spare_rows t → 4 * (k * (L + 1) + (L + 1)) ≤ length space
+module _ (t : TableValues) (L : ℕ) (all : L ≡ t.leads) (space : List Figures) (room : space_size t ≤ length space) where
+  pub row-there : (k : ℕ) → k ≤ t.elements + spare_rows t → k * (L + 1) + (L + 1) ≤ length space
   row-there k l =
       all_room t.elements (spare_rows t) k (L + 1) l
-      (subst (λ (n : ℕ). 4 * (t.elements + 1 + spare_rows t) * (n + 1) ≤ length space) (sym all) room)
+      (subst (λ (n : ℕ). (t.elements + 1 + spare_rows t) * (n + 1) ≤ length space) (sym all) room)
 
 module _ {bytes : List ℕ} {n L : ℕ} {weight : List ℕ} {s : State} (g : Given bytes n L weight s) where
   abbrev t : TableValues
@@ -81,12 +81,12 @@ module _ {bytes : List ℕ} {n L : ℕ} {weight : List ℕ} {s : State} (g : Giv
   pub few-leads : L ≤ most_leads
   few-leads = rw g.leads g.table.bounds.leads_most
 
-  pub places-there : (space : List ℕ) → space_size t ≤ length space → (k : ℕ) → k ≤ t.elements → 4 * (k * w + w) ≤ length space
+  pub places-there : (space : List Figures) → space_size t ≤ length space → (k : ℕ) → k ≤ t.elements → k * w + w ≤ length space
   places-there space room k l = row-there t L g.leads space room k (omega (arith, l))
 
   -- element i, no tanks, as the code has it once its figures f are put: the space before and after that, its weight H, the count of rains, and
   -- the input c
-  pub record Turn (i : ℕ) (before : List ℕ) (f : Figures) (space : List ℕ) (H count : ℕ) (c : ElementInput) : Type 0 where
+  pub record Turn (i : ℕ) (before : List Figures) (f : Figures) (space : List Figures) (H count : ℕ) (c : ElementInput) : Type 0 where
     pub used : i < t.elements
     pub single : (element_at bytes i).kind ≢ tanks
     pub room : space_size t ≤ length before
@@ -97,20 +97,20 @@ module _ {bytes : List ℕ} {n L : ℕ} {weight : List ℕ} {s : State} (g : Giv
     pub few : count ≡ rain_count (steps_of s)
     pub made : c ≡ lead_input (element_at bytes i) H count s i
 
-  module _ {i : ℕ} {before : List ℕ} {f : Figures} {space : List ℕ} {H count : ℕ} {c : ElementInput} (h : Turn i before f space H count c) where
+  module _ {i : ℕ} {before : List Figures} {f : Figures} {space : List Figures} {H count : ℕ} {c : ElementInput} (h : Turn i before f space H count c) where
     abbrev used : i < t.elements
     used = h.used
 
     abbrev is : f ≡ lead_figures t s 0 (last_cell t i)
     is = first-is t s i f used h.first
 
-    own_room : 4 * ((i + 1) * w) + 3 < length before
+    own_room : ((i + 1) * w) < length before
     own_room = omega (arith, places-there before h.room (i + 1) (omega (arith, used)))
 
     length-kept : length space ≡ length before
     length-kept = rw h.placed (put-length before ((i + 1) * w) f)
 
-    now-there : (k : ℕ) → k ≤ t.elements → 4 * (k * w + w) ≤ length space
+    now-there : (k : ℕ) → k ≤ t.elements → k * w + w ≤ length space
     now-there k l = omega (arith, places-there before h.room k l, length-kept)
 
     held : LeadsSoFar t s L (i + 1) i space
@@ -138,7 +138,7 @@ module _ {bytes : List ℕ} {n L : ℕ} {weight : List ℕ} {s : State} (g : Giv
     ready = ready-one t s L i used bounds.later bounds.down no_extra held.walked
 
     -- the first place of the element below
-    pub below-most : c.element.down * w ≤ forecast_space
+    pub below-most : c.element.down * w ≤ forecast_places
     below-most =
         let d : c.element.down ≤ t.elements = rw down_is bounds.down in
         omega (arith, mul-le-mul_right w d, space_most t.elements 0 L g.table.bounds.elements_most (omega arith) few-leads)
@@ -163,7 +163,7 @@ module _ {bytes : List ℕ} {n L : ℕ} {weight : List ℕ} {s : State} (g : Giv
           };
         })
 
-    module _ (v : Result Unit Refusal) (after : List ℕ) (done : ElementWorked v c f ((i + 1) * w + 1) (c.element.down * w + 1) L space after) where
+    module _ (v : Result Unit Refusal) (after : List Figures) (done : ElementWorked v c f ((i + 1) * w + 1) (c.element.down * w + 1) L space after) where
       worked : ElementWorked v c f ((i + 1) * w + 1) ((t.element i).down * w + 1) L space after
       worked = subst (λ (d : ℕ). ElementWorked v c f ((i + 1) * w + 1) (d * w + 1) L space after) down_is done
 
@@ -188,14 +188,14 @@ module _ {bytes : List ℕ} {n L : ℕ} {weight : List ℕ} {s : State} (g : Giv
 -- ---- a run
 
 -- what its loop holds: the elements from one on to another are worked out, none of them tanks
-pub record RunSoFar (t : TableValues) (s : State) (L from i : ℕ) (begun space : List ℕ) : Type 0 where
+pub record RunSoFar (t : TableValues) (s : State) (L from i : ℕ) (begun : List Figures) (space : List Figures) : Type 0 where
   pub later : from ≤ i
   pub few : i ≤ t.elements
   pub single : extra_before t i ≡ extra_before t from
   pub size : length space ≡ length begun
   pub held : LeadsSoFar t s L i i space
 
-module _ {bytes : List ℕ} {n L : ℕ} {weight : List ℕ} {s : State} {from i : ℕ} {begun before : List ℕ}
+module _ {bytes : List ℕ} {n L : ℕ} {weight : List ℕ} {s : State} {from i : ℕ} {begun : List Figures} {before : List Figures}
     (g : Given bytes n L weight s) (r : RunReady (table_in bytes) s L from begun) (h : RunSoFar (table_in bytes) s L from i begun before) where
   abbrev river : TableValues
   river = table_in bytes
@@ -218,7 +218,7 @@ module _ {bytes : List ℕ} {n L : ℕ} {weight : List ℕ} {s : State} {from i 
 
     -- what is known at its turn, where it is none
     pub run-turn :
-        {test : Bool} {f : Figures} {space : List ℕ} {count : ℕ} {c : ElementInput}
+        {test : Bool} {f : Figures} {space : List Figures} {count : ℕ} {c : ElementInput}
         → test ≡ same_kind (element_at bytes i).kind tanks
         → test ≡ false
         → f ≡ figures_of s i
@@ -241,7 +241,7 @@ module _ {bytes : List ℕ} {n L : ℕ} {weight : List ℕ} {s : State} {from i 
 
   -- some number passes, and its refusal is passed on
   pub run-passed :
-      (space : List ℕ) (v : Result (Option ℕ) Refusal) (k : Refusal)
+      (space : List Figures) (v : Result (Option ℕ) Refusal) (k : Refusal)
       → LeadsPass k river s L
       → IsErrAnd v (λ (e : Refusal). e ≡ k)
       → RunWorked v river s L from space
@@ -250,7 +250,7 @@ module _ {bytes : List ℕ} {n L : ℕ} {weight : List ℕ} {s : State} {from i 
 
   -- the next turn
   pub run-again :
-      {f : Figures} {space after : List ℕ} {H count : ℕ} {c : ElementInput} {v : Result Unit Refusal}
+      {f : Figures} {space after : List Figures} {H count : ℕ} {c : ElementInput} {v : Result Unit Refusal}
       (turn : Turn g i before f space H count c)
       → ElementWorked v c f ((i + 1) * (L + 1) + 1) (c.element.down * (L + 1) + 1) L space after
       → v ≡ (Ok tt)

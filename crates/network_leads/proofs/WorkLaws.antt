@@ -9,7 +9,7 @@ use mathlib.Core.Path.{◌≡◌, refl, sym, ap, subst, ◌∙◌}
 use native.Mathlib.Nat.{mul-le-mul, mul-le-mul_right, add-zero, eq-or-lt_of_le}
 use native.Mathlib.Omega.{arith}
 use lib.ListN.{length}
-use Rattle.sizes.specs.Sizes.{most_elements, most_leads, forecast_space}
+use Rattle.sizes.specs.Sizes.{most_elements, most_leads, forecast_places}
 use Rattle.refusal.specs.Answers.{answer_of}
 use Rattle.refusal.proofs.RuleLaws.{not-both}
 use Rattle.units.proofs.UnderLaws.{Under, under-accepted}
@@ -23,7 +23,6 @@ use Rattle.network.specs.Step.{no_observation}
 use Rattle.network.specs.Forecast.{lead_figures, lead_numbers}
 use Rattle.network.proofs.NumbersLaws.{lead_own}
 use Rattle.answer_space.specs.Places.{figures_at, put, Empty}
-use Rattle.answer_space.proofs.EmptyLaws.{none-at}
 use Rattle.answer_space.proofs.PlacesLaws.{put-here, put_other, same-lead}
 use Rattle.one_lead.specs.declared.ElementInput.{ElementInput}
 use Rattle.lead_walk.specs.Network.{Inlet, row, closed, inlet_at}
@@ -38,7 +37,7 @@ use Rattle.network_leads.specs.Worked.{LeadsSoFar, TanksNext, RunWorked, LeadsWo
 
 -- ---- places of w = leads + 1 leads an element
 
-pub space_most : (n x l : ℕ) → n ≤ most_elements → x ≤ 7 → l ≤ most_leads → 4 * (n + 1 + x) * (l + 1) ≤ forecast_space
+pub space_most : (n x l : ℕ) → n ≤ most_elements → x ≤ 7 → l ≤ most_leads → (n + 1 + x) * (l + 1) ≤ forecast_places
 space_most n x l few spare short =
     let more : n + 1 + x ≤ most_elements + 8 = omega (arith, few, spare) in
     let next : l + 1 ≤ most_leads + 1 = omega (arith, short) in
@@ -46,7 +45,7 @@ space_most n x l few spare short =
 
 module _ (n x k w : ℕ) (l : k ≤ n + x) where
   -- all places of row k are there
-  pub all_room : {m : ℕ} → 4 * (n + 1 + x) * w ≤ m → 4 * (k * w + w) ≤ m
+  pub all_room : {m : ℕ} → (n + 1 + x) * w ≤ m → k * w + w ≤ m
   all_room r =
       let more : k + 1 ≤ n + 1 + x = omega (arith, l) in
       omega (arith, r, mul-le-mul_right w more)
@@ -61,7 +60,7 @@ places-apart leads i d to =
 -- a place that is in none of their rows
 module _ {c : ElementInput} {first : ℕ → Figures} {place : ℕ → ℕ} {leads extra : ℕ} (p : ℕ) (apart : (j l : ℕ) → l < leads → p ≢ place j + l) where
   worked-stays :
-      {j : ℕ} {r : Result Unit Refusal} {before after : List ℕ}
+      {j : ℕ} {r : Result Unit Refusal} {before after : List Figures}
       → TanksWorked c first place leads extra j r before after
       → r ≡ (Ok tt)
       → figures_at after p ≡ figures_at before p
@@ -72,7 +71,7 @@ module _ {c : ElementInput} {first : ℕ → Figures} {place : ℕ → ℕ} {lea
       ∙ ((m.worked.done e).others p (λ k q. apart j k q) (λ k q. apart (j + 1) k q) ∙ m.row.others p (λ k q. apart (j + 1) k q))
 
 pub tanks-stay :
-    (t : TableValues) (L i k : ℕ) {r : Result Unit Refusal} {noise H x : ℕ} {s : State} {before after : List ℕ}
+    (t : TableValues) (L i k : ℕ) {r : Result Unit Refusal} {noise H x : ℕ} {s : State} {before after : List Figures}
     → TanksOpened r noise H (extra_tanks (t.element i)) x (record { own = (i + 1) * (L + 1) + 1; first = (t.elements + 1) * (L + 1) + 1; width = L + 1; leads = L }) s before after
     → r ≡ (Ok tt)
     → figures_at after ((k + 1) * (L + 1)) ≡ figures_at before ((k + 1) * (L + 1))
@@ -89,16 +88,16 @@ module _ (t : TableValues) (s : State) (leads : ℕ) where
   abbrev w : ℕ
   w = leads + 1
 
-  pub worked-begin : (space : List ℕ) → Empty space → LeadsSoFar t s leads 0 0 space
+  pub worked-begin : (space : List Figures) → Empty space → LeadsSoFar t s leads 0 0 space
   worked-begin space e =
-      record { walked = forecast-begin t s leads space (none-at e); first = λ k l. absurd (omega arith) }
+      record { walked = forecast-begin t s leads space e.at; first = λ k l. absurd (omega arith) }
 
   -- lead 0 of one element disturbs no other place
   lead-apart : (k i l : ℕ) → l < leads → k * w + 1 + l ≢ i * w
   lead-apart k i l m e =
       omega (arith, same-lead w k i (1 + l) 0 (omega (arith, m)) (omega arith) (omega (arith, e)))
 
-  module _ (i : ℕ) (space : List ℕ) (h : LeadsSoFar t s leads i i space) (f : Figures) (is : f ≡ lead_figures t s 0 (last_cell t i)) where
+  module _ (i : ℕ) (space : List Figures) (h : LeadsSoFar t s leads i i space) (f : Figures) (is : f ≡ lead_figures t s 0 (last_cell t i)) where
     abbrev own : ℕ
     own = (i + 1) * w
 
@@ -115,7 +114,7 @@ module _ (t : TableValues) (s : State) (leads : ℕ) where
     inlet-stays l m (row r) = stays l r m
     inlet-stays l m closed = refl
 
-    pub worked-first : 4 * own + 3 < length space → LeadsSoFar t s leads (i + 1) i (put space own f)
+    pub worked-first : own < length space → LeadsSoFar t s leads (i + 1) i (put space own f)
     worked-first room =
         record {
           walked =
@@ -132,7 +131,7 @@ module _ (t : TableValues) (s : State) (leads : ℕ) where
 
   -- figures at lead 0 stay at a turn
   pub first-stays :
-      (i d : ℕ) {c : ElementInput} {f : Figures} {space after : List ℕ}
+      (i d : ℕ) {c : ElementInput} {f : Figures} {space after : List Figures}
       → LeadsDone c f ((i + 1) * w + 1) (d * w + 1) leads space after
       → (k : ℕ)
       → figures_at after ((k + 1) * w) ≡ figures_at space ((k + 1) * w)
@@ -141,7 +140,7 @@ module _ (t : TableValues) (s : State) (leads : ℕ) where
 
   -- ---- what a run answers
 
-  module _ (from : ℕ) (space : List ℕ) where
+  module _ (from : ℕ) (space : List Figures) where
     pub run-end : {end : Option ℕ} → RunWorked (Ok end) t s leads from space → end ≡ None → LeadsSoFar t s leads t.elements t.elements space
     unfolding RunWorked
     run-end worked e = rw e at worked
@@ -153,7 +152,7 @@ module _ (t : TableValues) (s : State) (leads : ℕ) where
   -- ---- all elements
 
   figures-stand :
-      (space : List ℕ)
+      (space : List Figures)
       → LeadsSoFar t s leads t.elements t.elements space
       → (k lead : ℕ)
       → k < t.elements
@@ -167,7 +166,7 @@ module _ (t : TableValues) (s : State) (leads : ℕ) where
       next p = omega arith
 
   module _ (all : leads ≡ t.leads) where
-    pub worked-accepted : (space : List ℕ) → LeadsSoFar t s leads t.elements t.elements space → LeadsWorked (Ok tt) space t s
+    pub worked-accepted : (space : List Figures) → LeadsSoFar t s leads t.elements t.elements space → LeadsWorked (Ok tt) space t s
     worked-accepted space h =
         record {
           verdict =

@@ -8,10 +8,10 @@ ghost use Rattle.table.specs.InUse.{table_in};
 ghost use Rattle.network_leads.specs.Inputs.{InputReady, input_of, lead_input};
 ghost use Rattle.network_leads.specs.Worked.{Given, Cleared, RunReady, RunWorked, TanksReady, TanksDone, LeadsWorked};
 
-use answer_space::put_figures;
 use elements::{Element, Kind, down_at, element_at, extra_at, kind_at, noise_at};
 use inflow::mean_rain_inflow;
 use lead_walk::{store_tank, work_element};
+use method::Figures;
 use one_lead::ElementInput;
 use rain_sums::{rain_count, sum_of};
 use refusal::Refusal;
@@ -76,7 +76,7 @@ fn work_run(
     leads: usize,
     weights: &[u64],
     state: &[u64; STATE_NUMBERS],
-    space: &mut [u64],
+    space: &mut [Figures],
 ) -> Result<Option<usize>, Refusal>
     requires { Given table.now n leads weights.now state.now × RunReady (table_in table.now) state.now leads from space.old }
     ensures { RunWorked result (table_in table.now) state.now leads from space.new }
@@ -91,7 +91,7 @@ fn work_run(
         let first = figures_of(state, i);
         let own = (i + 1) * width;
         let here = own + 1;
-        put_figures(&mut *space, own, first);
+        space[own] = first;
         let input = lead_input(table, i, kind_at(table, i), weights, count, state);
         let element = input.element;
         let below = element.down * width + 1;
@@ -110,7 +110,7 @@ fn work_tanks(
     leads: usize,
     weight: u64,
     state: &[u64; STATE_NUMBERS],
-    space: &mut [u64],
+    space: &mut [Figures],
 ) -> Result<(), Refusal>
     requires { TanksReady table.now n i x leads weight state.now space.old }
     ensures { TanksDone result (table_in table.now) state.now leads i space.new }
@@ -118,7 +118,7 @@ fn work_tanks(
     let width = leads + 1;
     let own = (i + 1) * width;
     let last = figures_of(state, i);
-    put_figures(&mut *space, own, last);
+    space[own] = last;
     let noise = noise_at(table, i);
     let places = TankPlaces {
         own: own + 1,
@@ -141,7 +141,7 @@ pub fn work_leads(
     leads: usize,
     weights: &[u64],
     state: &[u64; STATE_NUMBERS],
-    space: &mut [u64],
+    space: &mut [Figures],
 ) -> Result<(), Refusal>
     requires { Given table.now n leads weights.now state.now × Cleared (table_in table.now) space.old }
     ensures { LeadsWorked result space.new (table_in table.now) state.now }

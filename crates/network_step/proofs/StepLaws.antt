@@ -52,7 +52,7 @@ use Rattle.element_weights.specs.Weights.{element_weight}
 use Rattle.element_weights.proofs.WeightsLaws.{tank-weight}
 use Rattle.answer_space.specs.Places.{figures_at, added, most_sum, most_sum_before, FiguresBelow}
 use Rattle.answer_space.proofs.PlacesLaws.{below-most}
-use Rattle.answer_space.proofs.EmptyLaws.{zeros-empty, none-at}
+use Rattle.answer_space.proofs.EmptyLaws.{nothing-empty}
 use Rattle.one_lead.specs.declared.ElementInput.{ElementInput}
 use Rattle.one_lead.specs.Leads.{own_at_lead}
 use Rattle.one_lead.specs.Worked.{step_lead, LeadReady, LeadWorked, tank_input}
@@ -126,13 +126,13 @@ module _ (t : TableValues) where
   pub passed-few : (i : ℕ) {passed : Passed} → PassedBefore t i passed → (passed.basins ≤ i) × (passed.dams ≤ i)
   passed-few i h = (omega (arith, h.basins, basins-most t i), omega (arith, h.dams, dams-most t i))
 
--- numbers that are all 0
-pub cleared : (n room : ℕ) → 4 * (n + 1) ≤ room → Cleared n (replicate room 0)
-cleared n room l = record { room = rw length-replicate l; none = none-at (zeros-empty room) }
+-- places with nothing in them
+pub cleared : (n room : ℕ) → n + 1 ≤ room → Cleared n (replicate room no_inflow)
+cleared n room l = record { room = rw length-replicate l; none = (nothing-empty room).at }
 
 -- the old outflow of element i is added
 pub old-added :
-    (table : List ℕ) (s : State) (i : ℕ) (before : List ℕ) {e : Element} {first : Figures} {after : List ℕ}
+    (table : List ℕ) (s : State) (i : ℕ) (before : List Figures) {e : Element} {first : Figures} {after : List Figures}
     → e ≡ element_at table i
     → first ≡ figures_of s i
     → after ≡ added before (element_at table i).down (old_outflow (figures_of s i))
@@ -203,12 +203,12 @@ module _ (table bytes : List ℕ) (s : State) where
 
   -- ---- the walk
 
-  pub stepping-begin : (space : List ℕ) → ((p : ℕ) → figures_at space p ≡ no_inflow) → Stepping t bytes s 0 space
+  pub stepping-begin : (space : List Figures) → ((p : ℕ) → figures_at space p ≡ no_inflow) → Stepping t bytes s 0 space
   unfolding extra_before
   stepping-begin space none = walked-begin (cells t) own o old 1 0 EveryCell (cell_row t) (resting t) 1 space none
 
   pub begun-reached :
-      (space : List ℕ) {n : ℕ} {r : Reached}
+      (space : List Figures) {n : ℕ} {r : Reached}
       → ((p : ℕ) → figures_at space p ≡ no_inflow)
       → n ≡ t.elements
       → r ≡ record { element = 0; tank = n; passed = record { basins = 0; dams = 0 }; gauges = 0 }
@@ -224,7 +224,7 @@ module _ (table bytes : List ℕ) (s : State) where
       })
 
   -- all elements are worked out
-  pub stepping-done : (space : List ℕ) → Stepping t bytes s t.elements space → StepWorked (Ok tt) space t bytes s
+  pub stepping-done : (space : List Figures) → Stepping t bytes s t.elements space → StepWorked (Ok tt) space t bytes s
   unfolding cells
   stepping-done space h =
       record {
@@ -242,7 +242,7 @@ module _ (table bytes : List ℕ) (s : State) where
       place_is : (p : ℕ) → p * 1 + 0 + 0 ≡ p
       place_is p = omega arith
 
-  pub step-refused : (r : Result Unit Refusal) (k : Refusal) (space : List ℕ) → IsErrAnd r (λ (e : Refusal). e ≡ k) → StepPasses t bytes s k → StepWorked r space t bytes s
+  pub step-refused : (r : Result Unit Refusal) (k : Refusal) (space : List Figures) → IsErrAnd r (λ (e : Refusal). e ≡ k) → StepPasses t bytes s k → StepWorked r space t bytes s
   step-refused r k space p h = let e = err_from_is_err_and r p in rw (e.1, e.2) (record { decided = h; held = λ a. cc })
 
   -- ---- what the record brings an element
@@ -323,14 +323,14 @@ module _ (table bytes : List ℕ) (s : State) where
         observed ∙ sym (ap (λ (x : Input). x.observation) (last-input t accepts.bounds.gauge bytes i l) ∙ observation-read)
 
     -- all its cells but the last are worked out
-    abbrev AtLast : List ℕ → Type 0
+    abbrev AtLast : List Figures → Type 0
     AtLast space = ReadyAt t own o old by-again i l to there space
 
-    last-small : {space : List ℕ} → AtLast space → FiguresBelow (figures_at space (element_at table i).down) most_sum_before
+    last-small : {space : List Figures} → AtLast space → FiguresBelow (figures_at space (element_at table i).down) most_sum_before
     last-small {space} h =
         subst (λ (p : ℕ). FiguresBelow (figures_at space p) most_sum_before) down_is (ready-small t own o old by-again i l to there h cells-few)
 
-    module _ {c : ElementInput} {first : Figures} {d : ℕ} {before after : List ℕ} (h : AtLast before) (of : StepInputOf t own o old c (last_cell t i)) (is : first ≡ figures_of s i) where
+    module _ {c : ElementInput} {first : Figures} {d : ℕ} {before after : List Figures} (h : AtLast before) (of : StepInputOf t own o old c (last_cell t i)) (is : first ≡ figures_of s i) where
       last-turned : d ≡ (element_at table i).down → LeadsDone c first (i + 1) d 1 before after → Stepping t bytes s (i + 1) after
       last-turned down g =
           element-turn t own o old by-again i l to there h of (is ∙ first-is)
@@ -347,11 +347,11 @@ module _ (table bytes : List ℕ) (s : State) where
       one : (t.element i).kind ≢ tanks
       one k = single (kind-is i l ∙ k)
 
-      one-ready : {space : List ℕ} → Stepping t bytes s i space → AtLast space
+      one-ready : {space : List Figures} → Stepping t bytes s i space → AtLast space
       one-ready h = ready-one t own o old by-again i l to there (no_extra t i l one) h
 
       -- its old outflow is ready to be added
-      pub old-outflow-ready : {space : List ℕ} → Stepping t bytes s i space → 4 * (place_count t + 1) ≤ length space → OldReady table i s space
+      pub old-outflow-ready : {space : List Figures} → Stepping t bytes s i space → place_count t + 1 ≤ length space → OldReady table i s space
       old-outflow-ready h room =
           record {
             there = element-there table accepts l;
@@ -399,13 +399,13 @@ module _ (table bytes : List ℕ) (s : State) where
 
         -- it is ready to be worked out
         pub step-ready :
-            {c : ElementInput} {first : Figures} {space : List ℕ}
+            {c : ElementInput} {first : Figures} {space : List Figures}
             → record_rules {A = Unit} t bytes (accepted tt) ≡ accepted tt
             → weight ≤ S
             → c ≡ taken
             → first ≡ figures_of s i
             → Stepping t bytes s i space
-            → 4 * (place_count t + 1) ≤ length space
+            → place_count t + 1 ≤ length space
             → LeadReady most_sum_before c (step_lead (i + 1) c.element.down) first space
         unfolding step_input input_of
         step-ready kept few same is h room =
@@ -428,7 +428,7 @@ module _ (table bytes : List ℕ) (s : State) where
             })
 
         module _
-            {c : ElementInput} {first : Figures} {d : ℕ} {before after : List ℕ} (same : c ≡ taken) (is : first ≡ figures_of s i)
+            {c : ElementInput} {first : Figures} {d : ℕ} {before after : List Figures} (same : c ≡ taken) (is : first ≡ figures_of s i)
             (h : Stepping t bytes s i before) where
           -- one element more
           pub stepping-again : d ≡ (element_at table i).down → LeadsDone c first (i + 1) d 1 before after → Stepping t bytes s (i + 1) after
@@ -492,11 +492,11 @@ module _ (table bytes : List ℕ) (s : State) where
         placed = record { own = i + 1; first = x + 1; width = 1; leads = 1 }
 
         -- those above the last are ready to be worked out
-        pub open-ready : {space : List ℕ} → 4 * (place_count t + 1) ≤ length space → weight ≤ S → of-tanks.TanksReady noise weight extra x 0 placed s space
+        pub open-ready : {space : List Figures} → place_count t + 1 ≤ length space → weight ≤ S → of-tanks.TanksReady noise weight extra x 0 placed s space
         open-ready room few = rw (place, many) (step-tanks-ready t i l accepts.bounds kind state room system few)
 
         module _
-            {r : Result Unit Refusal} {before middle : List ℕ} (h : Stepping t bytes s i before)
+            {r : Result Unit Refusal} {before middle : List Figures} (h : Stepping t bytes s i before)
             (g : TanksOpened r noise weight extra x placed s before middle) where
           opened : TanksOpened r noise weight (extra_tanks (t.element i)) (t.elements + extra_before t i) (step_places t i) s before middle
           opened = rw (place, many) at g
@@ -520,7 +520,7 @@ module _ (table bytes : List ℕ) (s : State) where
             pub last-ready-tank :
                 record_rules {A = Unit} t bytes (accepted tt) ≡ accepted tt
                 → weight ≤ S
-                → 4 * (place_count t + 1) ≤ length before
+                → place_count t + 1 ≤ length before
                 → length middle ≡ length before
                 → TankReady (tank_input noise weight seen) first (i + 1) d 1 middle
             last-ready-tank kept few room size =
@@ -551,7 +551,7 @@ module _ (table bytes : List ℕ) (s : State) where
 
             -- all tanks are worked out, or some number passes
             pub tanks-stepped :
-                {v : Result Unit Refusal} {after : List ℕ}
+                {v : Result Unit Refusal} {after : List Figures}
                 → ElementWorked v (tank_input noise weight seen) first (i + 1) d 1 middle after
                 → ElementStepped v t bytes s i after
             tanks-stepped q =
@@ -564,7 +564,7 @@ module _ (table bytes : List ℕ) (s : State) where
 
 -- what is known at it of the run, of the element and of what its gauge observed
 pub record OneTurn
-    (table bytes : List ℕ) (s : State) (weight : List ℕ) (basins i : ℕ) (passed : Passed) (ob : Option RatedReading) (space : List ℕ)
+    (table bytes : List ℕ) (s : State) (weight : List ℕ) (basins i : ℕ) (passed : Passed) (ob : Option RatedReading) (space : List Figures)
     : Type 0 where
   pub accepts : AcceptedTable table
   pub state : StateBounds (table_in table) s
@@ -576,9 +576,9 @@ pub record OneTurn
   pub seen : ob ≡ input_observation (table_in table) bytes i (table_in table).gauges
   pub weighed : (get_or weight i 0 ≡ element_weight (table_in table) i) × (get_or weight i 0 ≤ S)
   pub walked : Stepping (table_in table) bytes s i space
-  pub room : 4 * (place_count (table_in table) + 1) ≤ length space
+  pub room : place_count (table_in table) + 1 ≤ length space
 
-module _ {table bytes weight space : List ℕ} {s : State} {basins i : ℕ} {passed : Passed} {ob : Option RatedReading} (k : OneTurn table bytes s weight basins i passed ob space) where
+module _ {table bytes weight : List ℕ} {space : List Figures} {s : State} {basins i : ℕ} {passed : Passed} {ob : Option RatedReading} (k : OneTurn table bytes s weight basins i passed ob space) where
   pub outflow-ready : OldReady table i s space
   outflow-ready = old-outflow-ready table bytes s k.accepts k.state i k.used k.single k.walked k.room
 
@@ -611,7 +611,7 @@ module _ {table bytes weight space : List ℕ} {s : State} {basins i : ℕ} {pas
         step-ready table bytes s k.accepts k.state i k.used k.single k.weighed.0 k.counted k.come_past k.seen k.kept k.weighed.1
         (ap (λ (x : StepInput). x.input) is) b k.walked k.room
 
-    module _ {middle : List ℕ} (a : middle ≡ added space (element_at table i).down (old_outflow (figures_of s i))) where
+    module _ {middle : List Figures} (a : middle ≡ added space (element_at table i).down (old_outflow (figures_of s i))) where
       summed : middle ≡ added space r.input.element.down (old_outflow before)
       summed = old-added _ _ _ _ element-is b a
 
@@ -619,7 +619,7 @@ module _ {table bytes weight space : List ℕ} {s : State} {basins i : ℕ} {pas
       work-ready = new-ready _ _ _ _ one_ready _ refl _ summed
 
       module _
-          {w : Result Figures Refusal} {after : List ℕ}
+          {w : Result Figures Refusal} {after : List Figures}
           (worked : LeadWorked (λ x. x) w r.input (step_lead (i + 1) r.input.element.down) before middle after) where
         pub one-refused : {j : Refusal} → w ≡ Err j → StepPasses (table_in table) bytes s j
         one-refused {j} e =
@@ -671,7 +671,7 @@ past-element t met e = rw e
 module _ (t : TableValues) (bytes : List ℕ) (s : State) where
   -- one element more that is one cell
   pub reached-again :
-      {i tank gauges here : ℕ} {passed next : Passed} {before after : List ℕ}
+      {i tank gauges here : ℕ} {passed next : Passed} {before after : List Figures}
       → i < t.elements
       → (t.element i).kind ≢ tanks
       → ReachedIn t bytes s (record { element = i; tank = tank; passed = passed; gauges = gauges }) before
@@ -690,7 +690,7 @@ module _ (t : TableValues) (bytes : List ℕ) (s : State) where
 
   -- an element of tanks is next
   pub met-tanks :
-      {from met : Reached} {i tank gauges : ℕ} {passed : Passed} {space : List ℕ}
+      {from met : Reached} {i tank gauges : ℕ} {passed : Passed} {space : List Figures}
       → met ≡ record { element = i; tank = tank; passed = passed; gauges = gauges }
       → i < t.elements
       → from.element ≤ i
@@ -701,7 +701,7 @@ module _ (t : TableValues) (bytes : List ℕ) (s : State) where
 
   -- a run ends before an element of tanks, or after the last
   pub run-met :
-      {r : Result (Option Reached) Refusal} {run : Option Reached} {from met : Reached} {space : List ℕ}
+      {r : Result (Option Reached) Refusal} {run : Option Reached} {from met : Reached} {space : List Figures}
       → r ≡ Ok run
       → run ≡ Some met
       → RunEnded r t bytes s from space
@@ -710,7 +710,7 @@ module _ (t : TableValues) (bytes : List ℕ) (s : State) where
   run-met e f h = rw (e, f) at h
 
   pub run-done :
-      (from : Reached) {r : Result (Option Reached) Refusal} {run : Option Reached} {space : List ℕ}
+      (from : Reached) {r : Result (Option Reached) Refusal} {run : Option Reached} {space : List Figures}
       → r ≡ Ok run
       → run ≡ None
       → RunEnded r t bytes s from space
@@ -718,16 +718,16 @@ module _ (t : TableValues) (bytes : List ℕ) (s : State) where
   unfolding RunEnded
   run-done from e f h = rw (e, f) at h
 
-  pub run-passed : (from : Reached) (space : List ℕ) {r : Result (Option Reached) Refusal} {k : Refusal} → r ≡ Err k → RunEnded r t bytes s from space → StepPasses t bytes s k
+  pub run-passed : (from : Reached) (space : List Figures) {r : Result (Option Reached) Refusal} {k : Refusal} → r ≡ Err k → RunEnded r t bytes s from space → StepPasses t bytes s k
   unfolding RunEnded
   run-passed from space e h = rw e at h
 
   -- a run ends with a refusal that is passed on
-  pub run-refused : (r : Result (Option Reached) Refusal) (k : Refusal) (from : Reached) (space : List ℕ) → IsErrAnd r (λ (e : Refusal). e ≡ k) → StepPasses t bytes s k → RunEnded r t bytes s from space
+  pub run-refused : (r : Result (Option Reached) Refusal) (k : Refusal) (from : Reached) (space : List Figures) → IsErrAnd r (λ (e : Refusal). e ≡ k) → StepPasses t bytes s k → RunEnded r t bytes s from space
   unfolding RunEnded
   run-refused r k from space p h = let e = err_from_is_err_and r p in rw (e.1, e.2) h
 
-  pub tanks-refused : (r : Result Unit Refusal) (k : Refusal) (i : ℕ) (space : List ℕ) → IsErrAnd r (λ (e : Refusal). e ≡ k) → StepPasses t bytes s k → ElementStepped r t bytes s i space
+  pub tanks-refused : (r : Result Unit Refusal) (k : Refusal) (i : ℕ) (space : List Figures) → IsErrAnd r (λ (e : Refusal). e ≡ k) → StepPasses t bytes s k → ElementStepped r t bytes s i space
   tanks-refused r k i space p h =
       let e = err_from_is_err_and r p in
       rw (e.1, e.2) (record { done = λ a. cc; passes = λ k q. subst (λ (x : Refusal). StepPasses t bytes s x) (one-refusal q) h })
@@ -737,7 +737,7 @@ module _ (t : TableValues) (bytes : List ℕ) (s : State) where
 
   -- and done
   pub past-reached :
-      {met r : Reached} {before after : List ℕ}
+      {met r : Reached} {before after : List Figures}
       → met.element < t.elements
       → (t.element met.element).kind ≡ tanks
       → ReachedIn t bytes s met before
@@ -760,12 +760,12 @@ module _ (t : TableValues) (bytes : List ℕ) (s : State) where
       })
 
   -- all elements are passed
-  pub reached-all : {r : Reached} {space : List ℕ} → t.elements ≤ r.element → ReachedIn t bytes s r space → Stepping t bytes s t.elements space
+  pub reached-all : {r : Reached} {space : List Figures} → t.elements ≤ r.element → ReachedIn t bytes s r space → Stepping t bytes s t.elements space
   reached-all {r} {space} all h = subst (λ (i : ℕ). Stepping t bytes s i space) (omega (arith, all, h.few)) h.walked
 
   -- so many tanks and gauges
-  pub tank-most : {r : Reached} {space : List ℕ} → AcceptedBounds t → ReachedIn t bytes s r space → r.tank ≤ most_places
+  pub tank-most : {r : Reached} {space : List Figures} → AcceptedBounds t → ReachedIn t bytes s r space → r.tank ≤ most_places
   tank-most {r} b h = omega (arith, h.tank, b.places_most, extra-rise t r.element t.elements h.few)
 
-  pub gauges-few : {r : Reached} {space : List ℕ} → AcceptedBounds t → ReachedIn t bytes s r space → r.gauges ≤ most_gauges
+  pub gauges-few : {r : Reached} {space : List Figures} → AcceptedBounds t → ReachedIn t bytes s r space → r.gauges ≤ most_gauges
   gauges-few {r} b h = omega (arith, h.gauges, gauges-most t r.element, b.gauges_most)

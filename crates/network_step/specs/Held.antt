@@ -43,10 +43,10 @@ pub record StepReady (table : List ℕ) (basins : ℕ) (weight bytes observed : 
   pub state : StateBounds (table_in table) s
 
 -- what adding the old outflow of element i relies on
-pub record OldReady (table : List ℕ) (i : ℕ) (s : State) (space : List ℕ) : Type 0 where
+pub record OldReady (table : List ℕ) (i : ℕ) (s : State) (space : List Figures) : Type 0 where
   pub there : (i ≤ 1000) × (26 * i + 36 ≤ length table)
   pub place : i < most_elements
-  pub room : 4 * (element_at table i).down + 3 < length space
+  pub room : (element_at table i).down < length space
   pub small : FiguresBelow (figures_at space (element_at table i).down) most_sum
   pub fits : FiguresFit (old_outflow (figures_of s i))
 
@@ -55,8 +55,8 @@ abbrev pub place_count : TableValues → ℕ
 place_count t = t.elements + extra_count t
 
 -- a working space for n places with nothing in it
-pub record Cleared (n : ℕ) (space : List ℕ) : Type 0 where
-  pub room : 4 * (n + 1) ≤ length space
+pub record Cleared (n : ℕ) (space : List Figures) : Type 0 where
+  pub room : n + 1 ≤ length space
   pub none : (p : ℕ) → figures_at space p ≡ no_inflow
 
 module _ (t : TableValues) (bytes : List ℕ) (s : State) where
@@ -66,7 +66,7 @@ module _ (t : TableValues) (bytes : List ℕ) (s : State) where
   figures_by (suc l) = new_figures (cells t) (step_own (cells t) (input_at (cells t) bytes)) (observed_in (input_at (cells t) bytes)) (figures_by l)
 
   -- the first i elements are worked out, with all their cells
-  abbrev pub Stepping : ℕ → List ℕ → Type 0
+  abbrev pub Stepping : ℕ → List Figures → Type 0
   Stepping i space =
       Walked (cells t) (λ l. step_own (cells t) (input_at (cells t) bytes)) (observed_in (input_at (cells t) bytes)) figures_by 1 0 EveryCell (cell_row t)
       (resting t) 1 (first_cell t i) space
@@ -81,7 +81,7 @@ pub record PassedBefore (t : TableValues) (i : ℕ) (passed : Passed) : Type 0 w
   pub dams : passed.dams ≡ dams_before t i
 
 -- how far it has come
-pub record ReachedIn (t : TableValues) (bytes : List ℕ) (s : State) (r : Reached) (space : List ℕ) : Type 0 where
+pub record ReachedIn (t : TableValues) (bytes : List ℕ) (s : State) (r : Reached) (space : List Figures) : Type 0 where
   pub few : r.element ≤ t.elements
   pub tank : r.tank ≡ t.elements + extra_before t r.element
   pub passed : PassedBefore t r.element r.passed
@@ -90,48 +90,48 @@ pub record ReachedIn (t : TableValues) (bytes : List ℕ) (s : State) (r : Reach
 
 -- what a run over elements relies on
 pub record RunReady
-    (table : List ℕ) (n m basins : ℕ) (from : Reached) (weight bytes observed : List ℕ) (s : State) (space : List ℕ)
+    (table : List ℕ) (n m basins : ℕ) (from : Reached) (weight bytes observed : List ℕ) (s : State) (space : List Figures)
     : Type 0 where
   pub ready : StepReady table basins weight bytes observed s
   pub counts : CountedTable table n m
-  pub room : 4 * (place_count (table_in table) + 1) ≤ length space
+  pub room : place_count (table_in table) + 1 ≤ length space
   pub reached : ReachedIn (table_in table) bytes s from space
 
 -- it has come to an element of tanks
-pub record TanksMet (t : TableValues) (bytes : List ℕ) (s : State) (from met : Reached) (space : List ℕ) : Type 0 where
+pub record TanksMet (t : TableValues) (bytes : List ℕ) (s : State) (from met : Reached) (space : List Figures) : Type 0 where
   pub used : met.element < t.elements
   pub later : from.element ≤ met.element
   pub kind : (t.element met.element).kind ≡ tanks
   pub reached : ReachedIn t bytes s met space
 
 -- how it ends
-unfoldable pub RunEnded : Result (Option Reached) Refusal → TableValues → List ℕ → State → Reached → List ℕ → Type 0
+unfoldable pub RunEnded : Result (Option Reached) Refusal → TableValues → List ℕ → State → Reached → List Figures → Type 0
 RunEnded (Ok None) t bytes s from space = Stepping t bytes s t.elements space
 RunEnded (Ok (Some met)) t bytes s from space = TanksMet t bytes s from met space
 RunEnded (Err r) t bytes s from space = StepPasses t bytes s r
 
 -- the turn of an element of tanks, in a step by this record
 pub record TanksTurn
-    (table : List ℕ) (n m : ℕ) (met : Reached) (weight observed : List ℕ) (s : State) (space : List ℕ) (basins : ℕ) (bytes : List ℕ)
+    (table : List ℕ) (n m : ℕ) (met : Reached) (weight observed : List ℕ) (s : State) (space : List Figures) (basins : ℕ) (bytes : List ℕ)
     : Type 0 where
   pub run : RunReady table n m basins met weight bytes observed s space
   pub used : met.element < (table_in table).elements
   pub kind : ((table_in table).element met.element).kind ≡ tanks
 
 -- the code of it looks at no record
-pub record TanksReady (table : List ℕ) (n m : ℕ) (met : Reached) (weight observed : List ℕ) (s : State) (space : List ℕ) : Type 0 where
+pub record TanksReady (table : List ℕ) (n m : ℕ) (met : Reached) (weight observed : List ℕ) (s : State) (space : List Figures) : Type 0 where
   pub basins : ℕ
   pub bytes : List ℕ
   pub turn : TanksTurn table n m met weight observed s space basins bytes
 
 -- element i is worked out, or some number passes
-pub record ElementStepped (r : Result Unit Refusal) (t : TableValues) (bytes : List ℕ) (s : State) (i : ℕ) (after : List ℕ) : Type 0 where
+pub record ElementStepped (r : Result Unit Refusal) (t : TableValues) (bytes : List ℕ) (s : State) (i : ℕ) (after : List Figures) : Type 0 where
   pub done : r ≡ (Ok tt) → Stepping t bytes s (i + 1) after
   pub passes : (k : Refusal) → r ≡ Err k → StepPasses t bytes s k
 
 -- so by every record of which it is the turn
 pub record TanksTurned
-    (r : Result Unit Refusal) (table : List ℕ) (n m : ℕ) (met : Reached) (weight observed : List ℕ) (s : State) (before after : List ℕ)
+    (r : Result Unit Refusal) (table : List ℕ) (n m : ℕ) (met : Reached) (weight observed : List ℕ) (s : State) (before after : List Figures)
     : Type 0 where
   pub by :
       (basins : ℕ) (bytes : List ℕ)
@@ -156,6 +156,6 @@ pub record PastReady (table : List ℕ) (n m : ℕ) (met : Reached) : Type 0 whe
   pub gauges_few : met.gauges ≤ most_gauges
 
 -- the step is worked out where no number passes
-pub record StepWorked (r : Result Unit Refusal) (space : List ℕ) (t : TableValues) (bytes : List ℕ) (s : State) : Type 0 where
+pub record StepWorked (r : Result Unit Refusal) (space : List Figures) (t : TableValues) (bytes : List ℕ) (s : State) : Type 0 where
   pub decided : answer_of r ≡ under_ceiling (step_numbers t (input_at (cells t) bytes) s) tt
   pub held : r ≡ Ok tt → FiguresHeld space t bytes s

@@ -14,6 +14,7 @@ use answer_space::add_figures;
 use elements::{Element, Kind, down_at, element_at, extra_at, kind_at, noise_at};
 use inflow::{mean_rain_inflow, old_outflow};
 use lead_walk::store_tank;
+use method::Figures;
 use one_lead::ElementInput;
 use rating::RatedReading;
 use readings::{gauge_here, observation_here};
@@ -104,7 +105,7 @@ fn step_input(
 }
 
 // What element i, counted from 0, has let out before the step, added to the sums of the element below it.
-fn add_old_outflow(table: &[u8], i: usize, state: &[u64; STATE_NUMBERS], space: &mut [u64])
+fn add_old_outflow(table: &[u8], i: usize, state: &[u64; STATE_NUMBERS], space: &mut [Figures])
     requires { OldReady table.now i state.now space.old }
     ensures { space.new ≡ added space.old (element_at table.now i).down (old_outflow (figures_of state.now i)) }
 {
@@ -148,7 +149,7 @@ fn work_run(
     bytes: &[u8],
     observed: &[u64],
     state: &[u64; STATE_NUMBERS],
-    space: &mut [u64],
+    space: &mut [Figures],
 ) -> Result<Option<Reached>, Refusal>
     requires { RunReady table.now n m basins from weights.now bytes.now observed.now state.now space.old }
     ensures { RunEnded result (table_in table.now) bytes.now state.now from space.new }
@@ -189,7 +190,7 @@ fn work_tanks(
     weights: &[u64],
     observed: &[u64],
     state: &[u64; STATE_NUMBERS],
-    space: &mut [u64],
+    space: &mut [Figures],
 ) -> Result<(), Refusal>
     requires { TanksReady table.now n m met weights.now observed.now state.now space.old }
     ensures { TanksTurned result table.now n m met weights.now observed.now state.now space.old space.new }
@@ -236,7 +237,7 @@ pub fn work_step(
     bytes: &[u8],
     observed: &[u64],
     state: &[u64; STATE_NUMBERS],
-    space: &mut [u64],
+    space: &mut [Figures],
 ) -> Result<(), Refusal>
     requires { StepReady table.now basins weights.now bytes.now observed.now state.now × Cleared (place_count (table_in table.now)) space.old }
     ensures { StepWorked result space.new (table_in table.now) bytes.now state.now }

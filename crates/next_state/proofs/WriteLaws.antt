@@ -33,7 +33,7 @@ use Rattle.elements.specs.declared.Kind.{Kind}
 
 -- ---- the loop over the elements
 
-module _ (table bytes space : List ℕ) (s : State) where
+module _ (table bytes : List ℕ) (space : List Figures) (s : State) where
   abbrev t : TableValues
   t = table_in table
 
@@ -89,7 +89,7 @@ module _ (table bytes space : List ℕ) (s : State) where
 -- ---- both parts
 
 -- a river without tanks
-pub no-tanks : (n extra : ℕ) (space : List ℕ) (s : State) → extra ≡ 0 → TanksWritten n extra space s s
+pub no-tanks : (n extra : ℕ) (space : List Figures) (s : State) → extra ≡ 0 → TanksWritten n extra space s s
 unfolding changed
 no-tanks n extra space s e = rw e
 
@@ -97,13 +97,13 @@ tanks-change : (f : ℕ → Figures) (n : ℕ) → ChangesEach (λ x. n + x) (fi
 tanks-change f n = record { at = λ x s. figures-change s (n + x) (f x) }
 
 -- the tanks' part keeps the step count
-pub tanks-steps : (n extra : ℕ) (space : List ℕ) (s middle : State) → TanksWritten n extra space s middle → steps_of middle ≡ steps_of s
+pub tanks-steps : (n extra : ℕ) (space : List Figures) (s middle : State) → TanksWritten n extra space s middle → steps_of middle ≡ steps_of s
 tanks-steps n extra space s middle e =
     ap steps_of e ∙ changed-steps _ _ (tanks-change (λ x. figures_at space (n + x + 1)) n) s extra
 
 -- the state s before both, `middle` between them
 module _
-    (table bytes space : List ℕ) (s middle after : State) (bounds : AcceptedBounds (table_in table)) (full : length s ≡ state_numbers)
+    (table bytes : List ℕ) (space : List Figures) (s middle after : State) (bounds : AcceptedBounds (table_in table)) (full : length s ≡ state_numbers)
     (held : FiguresHeld space (table_in table) bytes s)
     {n extra : ℕ} (elements : n ≡ (table_in table).elements) (tanks : extra ≡ extra_count (table_in table))
     (first : TanksWritten n extra space s middle) (second : ElementsWritten table bytes space middle after) where

@@ -9,7 +9,6 @@ ghost use Rattle.state.specs.States.{rains_of, put_place};
 ghost use Rattle.element_step.specs.Rains.{shifted_rains};
 ghost use Rattle.next_state.specs.Written.{TanksReady, TanksWritten, WriteReady, ElementsWritten};
 
-use answer_space::figures_at;
 use element_step::shifted_rains;
 use elements::{Kind, basin_of, kind_at};
 use method::Figures;
@@ -43,12 +42,12 @@ fn put_step(
 }
 
 // The places of the tanks above the last of their elements, from place n on, with the figures that stand in the working space.
-pub fn write_tanks(n: usize, extra: usize, space: &[u64], state: &mut [u64; STATE_NUMBERS])
+pub fn write_tanks(n: usize, extra: usize, space: &[Figures], state: &mut [u64; STATE_NUMBERS])
     requires { TanksReady n extra space.now }
     ensures { TanksWritten n extra space.now state.old state.new }
 {
     for x in 0..extra {
-        put_figures(&mut *state, n + x, figures_at(space, n + x + 1));
+        put_figures(&mut *state, n + x, space[n + x + 1]);
     }
 }
 
@@ -58,7 +57,7 @@ pub fn write_state(
     table: &[u8],
     n: usize,
     bytes: &[u8],
-    space: &[u64],
+    space: &[Figures],
     state: &mut [u64; STATE_NUMBERS],
 )
     requires { WriteReady table.now n bytes.now space.now state.old }
@@ -67,7 +66,7 @@ pub fn write_state(
     let mut b: usize = 0;
     for i in 0..n {
         let kind = kind_at(table, i);
-        put_step(&mut *state, i, kind, figures_at(space, i + 1), bytes, b);
+        put_step(&mut *state, i, kind, space[i + 1], bytes, b);
         b += basin_of(kind);
     }
     state[1] += 1;

@@ -32,7 +32,7 @@ use Rattle.one_lead.specs.Worked.{step_lead, InputInRange, LeadReady, LeadKept, 
 
 -- ready for the new figures, with the old ones added already or not yet
 ready_at :
-    (c : ElementInput) (lead : Lead) (old : Figures) (before space : List ℕ)
+    (c : ElementInput) (lead : Lead) (old : Figures) (before space : List Figures)
     → LeadReady most_sum_before c lead old before
     → length space ≡ length before
     → FiguresBelow (figures_at space lead.below) most_sum
@@ -50,15 +50,15 @@ ready_at c lead old before space ready size small =
 
 -- the old figures added at the place below
 module _
-    (c : ElementInput) (lead : Lead) (old : Figures) (before : List ℕ) (ready : LeadReady most_sum_before c lead old before) (out : Figures)
+    (c : ElementInput) (lead : Lead) (old : Figures) (before : List Figures) (ready : LeadReady most_sum_before c lead old before) (out : Figures)
     (brought : out ≡ old_outflow old) where
   out-fits : FiguresFit out
   out-fits = rw brought (old-outflow-fits ready.old)
 
-  pub old-ready : (4 * lead.below + 3 < length before) × (FiguresBelow (figures_at before lead.below) most_sum × FiguresFit out)
+  pub old-ready : (lead.below < length before) × (FiguresBelow (figures_at before lead.below) most_sum × FiguresFit out)
   old-ready = (ready.below, (below-most ready.small (omega arith), out-fits))
 
-  module _ (space : List ℕ) (is : space ≡ added before lead.below out) where
+  module _ (space : List Figures) (is : space ≡ added before lead.below out) where
     old-sum : figures_at space lead.below ≡ joined_inflow (figures_at before lead.below) out
     old-sum = rw is (put-here before lead.below _ ready.below)
 
@@ -74,7 +74,7 @@ module _
         ready_at c lead old before space ready old-size (rw old-sum (joined-below ready.small (fits_below out-fits) (omega arith)))
 
     -- and has them then
-    pub both-kept : {x : Figures} {after : List ℕ} → LeadKept x x lead space after → LeadKept x (old_and_new_outflow old x) lead before after
+    pub both-kept : {x : Figures} {after : List Figures} → LeadKept x x lead space after → LeadKept x (old_and_new_outflow old x) lead before after
     both-kept {x} k =
         record {
           fits = k.fits;
@@ -86,7 +86,7 @@ module _
 
     -- so with a step, whose code adds the old ones first
     pub step-worked :
-        {r : Result Figures Refusal} {after : List ℕ}
+        {r : Result Figures Refusal} {after : List Figures}
         → LeadWorked (λ x. x) r c lead old space after
         → LeadWorked (old_and_new_outflow old) r c lead old before after
     step-worked w =
@@ -96,12 +96,12 @@ module _
         }
 
 -- the new figures put at the element's place, and added at the place below
-module _ (c : ElementInput) (lead : Lead) (old : Figures) (space : List ℕ) (ready : LeadReady most_sum c lead old space) (x : Figures) (fits : FiguresFit x) where
+module _ (c : ElementInput) (lead : Lead) (old : Figures) (space : List Figures) (ready : LeadReady most_sum c lead old space) (x : Figures) (fits : FiguresFit x) where
   pub places-ready : PlacesReady space lead.here lead.below x
   places-ready =
       record { here_room = ready.here; below_room = ready.below; apart = ready.apart; small = ready.small; fits = fits }
 
-  pub new-kept : {after : List ℕ} → after ≡ put_and_added space lead.here lead.below x → LeadKept x x lead space after
+  pub new-kept : {after : List Figures} → after ≡ put_and_added space lead.here lead.below x → LeadKept x x lead space after
   new-kept is =
       record {
         fits = fits;
@@ -111,27 +111,27 @@ module _ (c : ElementInput) (lead : Lead) (old : Figures) (space : List ℕ) (re
         size = rw is (put-length placed lead.below sum ∙ put-length space lead.here x);
       }
     where
-      placed : List ℕ
+      placed : List Figures
       placed = put space lead.here x
 
       sum : Figures
       sum = joined_inflow (figures_at space lead.below) x
 
 -- so before the old ones are added
-module _ (c : ElementInput) (lead : Lead) (old : Figures) (before : List ℕ) (ready : LeadReady most_sum_before c lead old before) where
+module _ (c : ElementInput) (lead : Lead) (old : Figures) (before : List Figures) (ready : LeadReady most_sum_before c lead old before) where
   pub ready-first : LeadReady most_sum c lead old before
   ready-first = ready_at c lead old before before ready refl (below-most ready.small (omega arith))
 
   -- which then follow
-  module _ (x : Figures) (space : List ℕ) (k : LeadKept x x lead before space) (out : Figures) (brought : out ≡ old_outflow old) where
-    room : 4 * lead.below + 3 < length space
+  module _ (x : Figures) (space : List Figures) (k : LeadKept x x lead before space) (out : Figures) (brought : out ≡ old_outflow old) where
+    room : lead.below < length space
     room = rw k.size ready.below
 
-    pub old-ready-last : (4 * lead.below + 3 < length space) × (FiguresBelow (figures_at space lead.below) most_sum × FiguresFit out)
+    pub old-ready-last : (lead.below < length space) × (FiguresBelow (figures_at space lead.below) most_sum × FiguresFit out)
     old-ready-last =
         (room, (rw k.added (joined-below ready.small (fits_below k.fits) (omega arith)), rw brought (old-outflow-fits ready.old)))
 
-    pub both-kept-last : {after : List ℕ} → after ≡ added space lead.below out → LeadKept x (old_and_new_outflow old x) lead before after
+    pub both-kept-last : {after : List Figures} → after ≡ added space lead.below out → LeadKept x (old_and_new_outflow old x) lead before after
     both-kept-last is =
         record {
           fits = k.fits;
@@ -145,7 +145,7 @@ module _ (c : ElementInput) (lead : Lead) (old : Figures) (before : List ℕ) (r
 
 -- the figures that drain in, as they were read, and what the element answered of them
 module _
-    (c : ElementInput) (lead : Lead) (old : Figures) (before : List ℕ) (above : Figures) (r : Result Figures Refusal)
+    (c : ElementInput) (lead : Lead) (old : Figures) (before : List Figures) (above : Figures) (r : Result Figures Refusal)
     (read : above ≡ figures_at before lead.here)
     (answered :
     (answer_of r
@@ -161,7 +161,7 @@ module _
 
   -- a refusal is passed on
   pub lead-refused :
-      {let_out : Figures → Figures} {s : Result Figures Refusal} {k : Refusal} {after : List ℕ}
+      {let_out : Figures → Figures} {s : Result Figures Refusal} {k : Refusal} {after : List Figures}
       → r ≡ Err k
       → IsErrAnd s (λ (e : Refusal). e ≡ k)
       → LeadWorked let_out s c lead old before after
@@ -171,7 +171,7 @@ module _
 
   module _ (x : Figures) (e : r ≡ Ok x) where
     pub lead-accepted :
-        (let_out : Figures → Figures) {after : List ℕ}
+        (let_out : Figures → Figures) {after : List Figures}
         → LeadKept x (let_out x) lead before after
         → LeadWorked let_out (Ok x) c lead old before after
     lead-accepted let_out {after} k =
@@ -189,7 +189,7 @@ pub dam-fits :
 dam-fits r k is = rw is (released-fit _ _ (r.release k) r.element.system_noise)
 
 -- a dam at a lead: its release, whatever drains in
-module _ (c : ElementInput) (lead : Lead) (old : Figures) (before : List ℕ) (k : c.element.kind ≡ dam) (in_range : InputInRange c) where
+module _ (c : ElementInput) (lead : Lead) (old : Figures) (before : List Figures) (k : c.element.kind ≡ dam) (in_range : InputInRange c) where
   answered :
       (accepted (released c.element c.own)
       ≡ element_answer c.weight c.element
@@ -198,7 +198,7 @@ module _ (c : ElementInput) (lead : Lead) (old : Figures) (before : List ℕ) (k
   answered = dam-answered _ _ _ old k (in_range.release k) in_range.element.system_noise
 
   dam-lead :
-      {after : List ℕ}
+      {after : List Figures}
       → LeadKept (released c.element c.own) (old_and_new_outflow old (released c.element c.own)) lead before after
       → LeadWorked (old_and_new_outflow old) (Ok (released c.element c.own)) c lead old before after
   unfolding AnsweredFiguresFit
@@ -206,10 +206,10 @@ module _ (c : ElementInput) (lead : Lead) (old : Figures) (before : List ℕ) (k
       lead-accepted c lead old before _ (Ok (released c.element c.own)) refl answered _ refl (old_and_new_outflow old) kept
 
 pub dam-worked :
-    (c : ElementInput) (here below : ℕ) (old : Figures) (before : List ℕ)
+    (c : ElementInput) (here below : ℕ) (old : Figures) (before : List Figures)
     → c.element.kind ≡ dam
     → InputInRange c
-    → {x : Figures} {after : List ℕ}
+    → {x : Figures} {after : List Figures}
     → x ≡ released c.element c.own
     → LeadKept x (old_and_new_outflow old x) (step_lead here below) before after
     → DamWorked x c here below old before after
@@ -229,7 +229,7 @@ dam-worked c here below old before k in_range {after = after} is kept =
 
 -- a tank, a reach by itself
 module _
-    (noise weight : ℕ) (o : Option RatedReading) (here below : ℕ) (old : Figures) (before : List ℕ) (above : Figures) (r : Result Figures Refusal)
+    (noise weight : ℕ) (o : Option RatedReading) (here below : ℕ) (old : Figures) (before : List Figures) (above : Figures) (r : Result Figures Refusal)
     (read : above ≡ figures_at before here)
     (worked : (answer_of r ≡ stored_answer weight (tank_element noise) o (reach_inflow above) old) × AnsweredFiguresFit r) where
   tank-answered :
@@ -240,7 +240,7 @@ module _
   tank-answered number = (worked.0 ∙ reach-answered _ _ _ _ refl, worked.1)
 
   pub tank-refused :
-      {s : Result Figures Refusal} {k : Refusal} {after : List ℕ}
+      {s : Result Figures Refusal} {k : Refusal} {after : List Figures}
       → r ≡ Err k
       → IsErrAnd s (λ (e : Refusal). e ≡ k)
       → TankWorked s noise weight o here below old before after
@@ -248,7 +248,7 @@ module _
       record { at = λ number. lead-refused (tank_input noise weight o) _ old before above r read (tank-answered number) is passed }
 
   pub tank-accepted :
-      (x : Figures) {after : List ℕ}
+      (x : Figures) {after : List Figures}
       → r ≡ Ok x
       → LeadKept x (old_and_new_outflow old x) (step_lead here below) before after
       → TankWorked (Ok x) noise weight o here below old before after

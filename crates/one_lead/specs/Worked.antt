@@ -28,17 +28,17 @@ pub record InputInRange (c : ElementInput) : Type 0 where
   pub observation : ObservationFits c.observation
 
 -- the sums at the place below are at most `most`
-pub record LeadReady (most : ℕ) (c : ElementInput) (lead : Lead) (before : Figures) (space : List ℕ) : Type 0 where
+pub record LeadReady (most : ℕ) (c : ElementInput) (lead : Lead) (before : Figures) (space : List Figures) : Type 0 where
   pub in_range : InputInRange c
   pub number : lead.number ≤ 12
-  pub here : 4 * lead.here + 3 < length space
-  pub below : 4 * lead.below + 3 < length space
+  pub here : lead.here < length space
+  pub below : lead.below < length space
   pub apart : lead.below ≢ lead.here
   pub old : FiguresFit before
   pub small : FiguresBelow (figures_at space lead.below) most
 
 -- the figures x of a lead stand at its place, and what the element lets out is added at the place below
-pub record LeadKept (x out : Figures) (lead : Lead) (before after : List ℕ) : Type 0 where
+pub record LeadKept (x out : Figures) (lead : Lead) (before after : List Figures) : Type 0 where
   pub fits : FiguresFit x
   pub placed : figures_at after lead.here ≡ x
   pub added : figures_at after lead.below ≡ joined_inflow (figures_at before lead.below) out
@@ -47,7 +47,7 @@ pub record LeadKept (x out : Figures) (lead : Lead) (before after : List ℕ) : 
 
 -- let_out: what is added at the place below, of the new figures
 pub record LeadWorked
-    (let_out : Figures → Figures) (r : Result Figures Refusal) (c : ElementInput) (lead : Lead) (old : Figures) (before after : List ℕ)
+    (let_out : Figures → Figures) (r : Result Figures Refusal) (c : ElementInput) (lead : Lead) (old : Figures) (before after : List Figures)
     : Type 0 where
   pub answer :
       answer_of r
@@ -56,7 +56,7 @@ pub record LeadWorked
   pub kept : (x : Figures) → r ≡ Ok x → LeadKept x (let_out x) lead before after
 
 -- so with the release of a dam, whatever the number of the lead
-pub record DamWorked (x : Figures) (c : ElementInput) (here below : ℕ) (old : Figures) (before after : List ℕ) : Type 0 where
+pub record DamWorked (x : Figures) (c : ElementInput) (here below : ℕ) (old : Figures) (before after : List Figures) : Type 0 where
   pub at :
       (number : ℕ)
       → LeadWorked (old_and_new_outflow old) (Ok x) c (record { number = number; here = here; below = below }) old before after
@@ -68,7 +68,7 @@ tank_input noise weight o =
 
 -- so with a tank, whatever the number of the lead
 pub record TankWorked
-    (r : Result Figures Refusal) (noise weight : ℕ) (o : Option RatedReading) (here below : ℕ) (old : Figures) (before after : List ℕ)
+    (r : Result Figures Refusal) (noise weight : ℕ) (o : Option RatedReading) (here below : ℕ) (old : Figures) (before after : List Figures)
     : Type 0 where
   pub at :
       (number : ℕ)

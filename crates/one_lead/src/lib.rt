@@ -8,7 +8,7 @@ ghost use Rattle.elements.specs.Kinds.{dam};
 ghost use Rattle.answer_space.specs.Places.{most_sum, most_sum_before};
 ghost use Rattle.one_lead.specs.Worked.{step_lead, LeadReady, LeadWorked, DamWorked, tank_input, TankWorked};
 
-use answer_space::{add_figures, figures_at, put_and_add};
+use answer_space::{add_figures, put_and_add};
 use element_step::{Intake, dam_figures, lead_element, step_element, step_tank};
 use elements::Element;
 use inflow::old_outflow;
@@ -41,12 +41,12 @@ pub fn work_lead(
     input: ElementInput,
     lead: Lead,
     old: Figures,
-    space: &mut [u64],
+    space: &mut [Figures],
 ) -> Result<Figures, Refusal>
     requires { LeadReady most_sum_before input lead old space.old × ((input.observation ≡ None) × (input.element.kind ≢ dam)) }
     ensures { LeadWorked (old_and_new_outflow old) result input lead old space.old space.new }
 {
-    let above = figures_at(&*space, lead.here);
+    let above = space[lead.here];
     let intake = Intake {
         own: input.own,
         lead: lead.number,
@@ -66,7 +66,7 @@ pub fn hold_lead(
     here: usize,
     below: usize,
     old: Figures,
-    space: &mut [u64],
+    space: &mut [Figures],
 ) -> Figures
     requires { LeadReady most_sum_before input (step_lead here below) old space.old × (input.element.kind ≡ dam) }
     ensures { DamWorked result input here below old space.old space.new }
@@ -83,12 +83,12 @@ pub fn work_step(
     here: usize,
     below: usize,
     old: Figures,
-    space: &mut [u64],
+    space: &mut [Figures],
 ) -> Result<Figures, Refusal>
     requires { LeadReady most_sum input (step_lead here below) old space.old }
     ensures { LeadWorked (λ x. x) result input (step_lead here below) old space.old space.new }
 {
-    let above = figures_at(&*space, here);
+    let above = space[here];
     let intake = Intake {
         own: input.own,
         lead: 0,
@@ -108,12 +108,12 @@ pub fn tank_lead(
     here: usize,
     below: usize,
     old: Figures,
-    space: &mut [u64],
+    space: &mut [Figures],
 ) -> Result<Figures, Refusal>
     requires { LeadReady most_sum_before (tank_input noise weight observation) (step_lead here below) old space.old }
     ensures { TankWorked result noise weight observation here below old space.old space.new }
 {
-    let above = figures_at(&*space, here);
+    let above = space[here];
     let new = step_tank(noise, weight, observation, above, old)?;
     add_figures(&mut *space, below, old_outflow(old));
     put_and_add(&mut *space, here, below, new);

@@ -6,7 +6,6 @@ use Rattle.method.specs.declared.Figures.{Figures}
 use Rattle.table.specs.Tables.{TableValues}
 use Rattle.table.specs.InUse.{table_in}
 use Rattle.state.specs.States.{State, steps_of}
-use Rattle.network.specs.Lent.{layout}
 use Rattle.entries.specs.Entries.{step_answer, step_on_answer, forecast_answer, forecast_on_answer}
 use Rattle.lines.specs.Printed.{answer_lines, refusal_line}
 
@@ -17,7 +16,7 @@ pub record Printed : Type 0 where
 
 -- "After each accepted step it prints, one line each .., by element and then lead 0 (the state) to L": the figures of a forecast
 unfoldable pub figures_lines : TableValues → ℕ → List Figures → List ℕ
-figures_lines t steps fs = answer_lines steps (t.leads + 1) (layout fs) t.elements
+figures_lines t steps fs = answer_lines steps (t.leads + 1) fs t.elements
 
 -- "A refusal prints accepted steps so far, "refused", the number; any from 1 to 10 ends the run, after others the next record is
 -- read."

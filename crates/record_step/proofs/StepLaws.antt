@@ -1,4 +1,5 @@
 -- Laws of a step or a trial by a record: its rules in checking order after rule 8, and the state that a step leaves.
+use Rattle.method.specs.declared.Figures.{Figures}
 use Rattle.std.specs.Prelude.{Result, Ok, Err, IsErrAnd}
 use Rattle.std.proofs.lemmas.Result.{err_from_is_err_and}
 use Prim.{Unit}
@@ -40,6 +41,7 @@ use Rattle.entries.specs.Trials.{trial_space_fits}
 use Rattle.entries.proofs.StepRuleLaws as step-rules
 use Rattle.next_state.specs.Written.{TanksWritten, WriteReady, ElementsWritten}
 use Rattle.next_state.proofs.WriteLaws.{tanks-steps, written-in-parts}
+use Rattle.method.specs.Inflow.{no_inflow}
 use Rattle.record_step.specs.Judged.{RiverGiven, StepJudged, worked_answer, RecordGiven, RecordWorked, WriteGiven}
 
 -- a refusal that is passed on
@@ -87,7 +89,7 @@ module _ {A : Type 0} (t : TableValues) (bytes : List ℕ) (s : State) (lent : �
 -- what the verdict before 15 and 16 says of them
 module _ (t : TableValues) (bytes : List ℕ) (s : State) {v : Result Unit Refusal} {observed : List ℕ} (h : StepJudged t bytes s v observed) where
   -- a refusal before them
-  pub refused-before : {lent : ℕ} {k : Refusal} {space : List ℕ} → v ≡ Err k → RecordWorked v space t bytes s lent
+  pub refused-before : {lent : ℕ} {k : Refusal} {space : List Figures} → v ≡ Err k → RecordWorked v space t bytes s lent
   unfolding worked_answer
   refused-before e =
       record {
@@ -103,7 +105,7 @@ module _ (t : TableValues) (bytes : List ℕ) (s : State) {v : Result Unit Refus
     judged = sym h.decided ∙ ap answer_of accepts
 
     -- 15
-    pub space-short : {lent : ℕ} {space : List ℕ} → lent < 4 * t.elements → RecordWorked (Err AnswerSpace) space t bytes s lent
+    pub space-short : {lent : ℕ} {space : List Figures} → lent < 4 * t.elements → RecordWorked (Err AnswerSpace) space t bytes s lent
     unfolding worked_answer trial_space_fits
     space-short l =
         record {
@@ -116,7 +118,7 @@ module _ (t : TableValues) (bytes : List ℕ) (s : State) {v : Result Unit Refus
 
     -- and 16
     pub after-judged :
-        {lent : ℕ} {r : Result Unit Refusal} {space : List ℕ}
+        {lent : ℕ} {r : Result Unit Refusal} {space : List Figures}
         → 4 * t.elements ≤ lent
         → StepWorked r space t bytes s
         → RecordWorked r space t bytes s lent
@@ -141,7 +143,7 @@ unfolding worked_answer trial_space_fits step_on_answer
 step-answer t bytes s e = rw (e, le-leb (4 * t.elements) (4 * t.elements) (omega arith))
 
 module _
-    (t : TableValues) (bytes : List ℕ) (s : State) {v : Result Unit Refusal} {space : List ℕ} {lent : ℕ} (h : RecordWorked v space t bytes s lent)
+    (t : TableValues) (bytes : List ℕ) (s : State) {v : Result Unit Refusal} {space : List Figures} {lent : ℕ} (h : RecordWorked v space t bytes s lent)
     (all : lent ≡ 4 * t.elements) where
   pub written-refused : {k : Refusal} → v ≡ Err k → Answered v s (step_on_answer t bytes s) s
   written-refused e =
@@ -154,7 +156,7 @@ module _
 -- ---- the state in two parts
 
 module _
-    {v : Result Unit Refusal} {table bytes space : List ℕ} {n extra : ℕ} {s middle : State} (g : WriteGiven v table n extra bytes space s) (accepts : v ≡ (Ok tt))
+    {v : Result Unit Refusal} {table bytes : List ℕ} {space : List Figures} {n extra : ℕ} {s middle : State} (g : WriteGiven v table n extra bytes space s) (accepts : v ≡ (Ok tt))
     (tanks : TanksWritten n extra space s middle) where
   -- what the elements' part relies on after the tanks'
   pub elements-ready : WriteReady table n bytes space middle
@@ -226,9 +228,9 @@ river-given p f =
 
 -- what writing the state relies on, of a river that was worked out
 pub write-given :
-    {table bytes space : List ℕ} {n extra basins dams : ℕ} {s : State} {v : Result Unit Refusal}
+    {table bytes : List ℕ} {space : List Figures} {n extra basins dams : ℕ} {s : State} {v : Result Unit Refusal}
     → RiverGiven table n extra basins dams s
-    → 4 * (n + extra + 1) ≤ length space
+    → n + extra + 1 ≤ length space
     → RecordWorked v space (table_in table) bytes s (4 * n)
     → WriteGiven v table n extra bytes space s
 write-given g room w =
@@ -240,8 +242,8 @@ module _ {table : List ℕ} {n extra basins dams : ℕ} {s : State} (g : RiverGi
       (elements observed space : ℕ)
       → n ≤ elements
       → 2 * (table_in table).gauges ≤ observed
-      → 4 * (n + extra + 1) ≤ space
-      → RecordGiven table basins dams s (replicate elements 0) (replicate observed 0) × Cleared (place_count (table_in table)) (replicate space 0)
+      → n + extra + 1 ≤ space
+      → RecordGiven table basins dams s (replicate elements 0) (replicate observed 0) × Cleared (place_count (table_in table)) (replicate space no_inflow)
   spaces-ready elements observed space few seen room = (
     record {
       counted = (g.accepts, (g.basins_all, g.dams_all));

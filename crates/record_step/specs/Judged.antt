@@ -1,8 +1,9 @@
 -- Serves the code: what a step or a trial by a record relies on, and what each part of it leaves.
+use Rattle.method.specs.declared.Figures.{Figures}
 use Rattle.refusal.specs.declared.Refusal.{Refusal}
 use Prim.{Unit}
 use Rattle.std.specs.Prelude.{ℕ, ◌+◌, ◌*◌, ◌≤◌, true, List, ◌≡◌, length, Result, Ok}
-use Rattle.sizes.specs.Sizes.{most_elements, state_numbers, observed_numbers, step_space}
+use Rattle.sizes.specs.Sizes.{most_elements, state_numbers, observed_numbers, step_places}
 use Rattle.refusal.specs.Answers.{Answer, accepted, rule, answer_of}
 use Rattle.units.specs.Ceiling.{under_ceiling}
 use Rattle.table.specs.declared.Counts.{Counts}
@@ -31,14 +32,14 @@ pub record RiverGiven (table : List ℕ) (n extra basins dams : ℕ) (s : State)
   pub dams_all : dams ≡ dam_count (table_in table)
   pub fits : state_fits (table_in table) s ≡ true
 
--- a working space for it: so many weights, numbers for what its gauges observe, and numbers to work in
+-- a working space for it: so many weights, numbers for what its gauges observe, and places to work in
 pub record SpaceGiven (t : TableValues) (n extra own observed room : ℕ) : Type 0 where
   pub weights : n ≤ own
   pub gauges : 2 * t.gauges ≤ observed
-  pub places : 4 * (n + extra + 1) ≤ room
+  pub places : n + extra + 1 ≤ room
   pub own_most : own ≤ most_elements
   pub observed_most : observed ≤ observed_numbers
-  pub room_most : room ≤ step_space
+  pub room_most : room ≤ step_places
 
 -- the same with its counts, and two numbers a gauge for what they observe
 pub record JudgeReady (table : List ℕ) (counts : Counts) (s : State) (observed : List ℕ) : Type 0 where
@@ -68,7 +69,7 @@ pub record RecordGiven (table : List ℕ) (basins dams : ℕ) (s : State) (own o
   pub room : 2 * (table_in table).gauges ≤ length observed
 
 -- all rules decide; where they accept, the new figures stand in the working space
-pub record RecordWorked (verdict : Result Unit Refusal) (space : List ℕ) (t : TableValues) (bytes : List ℕ) (s : State) (lent : ℕ) : Type 0 where
+pub record RecordWorked (verdict : Result Unit Refusal) (space : List Figures) (t : TableValues) (bytes : List ℕ) (s : State) (lent : ℕ) : Type 0 where
   pub decided : answer_of verdict ≡ worked_answer t bytes s lent tt
   pub kept : verdict ≡ (Ok tt) → record_rules {A = Unit} t bytes (accepted tt) ≡ accepted tt
   pub enough : verdict ≡ (Ok tt) → 4 * t.elements ≤ lent
@@ -76,16 +77,16 @@ pub record RecordWorked (verdict : Result Unit Refusal) (space : List ℕ) (t : 
   pub whole : length s ≡ state_numbers
 
 -- what writing the state relies on
-pub record WriteGiven (verdict : Result Unit Refusal) (table : List ℕ) (n extra : ℕ) (bytes space : List ℕ) (s : State) : Type 0 where
+pub record WriteGiven (verdict : Result Unit Refusal) (table : List ℕ) (n extra : ℕ) (bytes : List ℕ) (space : List Figures) (s : State) : Type 0 where
   pub accepts : AcceptedTable table
   pub elements : n ≡ (table_in table).elements
   pub extra_all : extra ≡ extra_count (table_in table)
   pub fits : state_fits (table_in table) s ≡ true
-  pub room : 4 * (n + extra + 1) ≤ length space
+  pub room : n + extra + 1 ≤ length space
   pub worked : RecordWorked verdict space (table_in table) bytes s (4 * n)
 
 -- what a step with weights and space lent relies on
-pub record LentGiven (table : List ℕ) (counts : Counts) (weight space : List ℕ) (s : State) : Type 0 where
+pub record LentGiven (table : List ℕ) (counts : Counts) (weight : List ℕ) (space : List Figures) (s : State) : Type 0 where
   pub weighed : Weighed table counts weight
   pub fits : state_fits (table_in table) s ≡ true
-  pub room : step_space ≤ length space
+  pub room : step_places ≤ length space

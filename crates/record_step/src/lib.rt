@@ -12,13 +12,14 @@ ghost use Rattle.record_step.specs.Judged.{RiverGiven, JudgeReady, StepJudged, R
 
 use answer_space::clear;
 use element_weights::put_weights;
+use method::Figures;
 use network_step::work_step;
 use next_state::{write_state, write_tanks};
 use refusal::Refusal;
 use sizes::{
-    MEDIUM_PLACES, MEDIUM_STEP_SPACE, MIDDLE_ELEMENTS, MIDDLE_STEP_SPACE, MOST_ELEMENTS,
-    OBSERVED_NUMBERS, SMALL_ELEMENTS, SMALL_OBSERVED_NUMBERS, SMALL_STEP_SPACE, STATE_NUMBERS,
-    STEP_SPACE,
+    MEDIUM_PLACES, MEDIUM_STEP_PLACES, MIDDLE_ELEMENTS, MIDDLE_STEP_PLACES, MOST_ELEMENTS,
+    OBSERVED_NUMBERS, SMALL_ELEMENTS, SMALL_OBSERVED_NUMBERS, SMALL_STEP_PLACES, STATE_NUMBERS,
+    STEP_PLACES,
 };
 use table::Counts;
 
@@ -52,7 +53,7 @@ pub fn work_record(
     lent: usize,
     own: &mut [u64],
     observed: &mut [u64],
-    space: &mut [u64],
+    space: &mut [Figures],
 ) -> Result<(), Refusal>
     requires { RecordGiven table.now basins dams state.now own.old observed.old × Cleared (place_count (table_in table.now)) space.old }
     ensures { RecordWorked result space.new (table_in table.now) bytes.now state.now lent }
@@ -66,8 +67,8 @@ pub fn work_record(
     work_step(table, basins, &*own, bytes, &*observed, state, &mut *space)
 }
 
-// The whole step in a working space of its own: E weights, so many numbers for what the gauges observe, and so many to work in.
-fn step_in_space<const E: usize, const OBSERVED: usize, const NUMBERS: usize>(
+// The whole step in a working space of its own: E weights, so many numbers for what the gauges observe, and so many places to work in.
+fn step_in_space<const E: usize, const OBSERVED: usize, const PLACES: usize>(
     table: &[u8],
     n: usize,
     extra: usize,
@@ -76,12 +77,12 @@ fn step_in_space<const E: usize, const OBSERVED: usize, const NUMBERS: usize>(
     bytes: &[u8],
     state: &mut [u64; STATE_NUMBERS],
 ) -> Result<(), Refusal>
-    requires { RiverGiven table.now n extra basins dams state.old × SpaceGiven (table_in table.now) n extra E OBSERVED NUMBERS }
+    requires { RiverGiven table.now n extra basins dams state.old × SpaceGiven (table_in table.now) n extra E OBSERVED PLACES }
     ensures { Answered result state.new (step_on_answer (table_in table.now) bytes.now state.old) state.old }
 {
     let mut own = [0u64; E];
     let mut observed = [0u64; OBSERVED];
-    let mut space = [0u64; NUMBERS];
+    let mut space = [Figures::NONE; PLACES];
     work_record(
         table,
         basins,
@@ -112,7 +113,7 @@ fn step_in_largest_space(
     requires { RiverGiven table.now n extra basins dams state.old }
     ensures { Answered result state.new (step_on_answer (table_in table.now) bytes.now state.old) state.old }
 {
-    step_in_space::<MOST_ELEMENTS, OBSERVED_NUMBERS, STEP_SPACE>(
+    step_in_space::<MOST_ELEMENTS, OBSERVED_NUMBERS, STEP_PLACES>(
         table, n, extra, basins, dams, bytes, state,
     )
 }
@@ -135,18 +136,18 @@ pub fn step_from(
     let dams = counts.dams;
     if extra == 0 {
         if n <= SMALL_ELEMENTS {
-            return step_in_space::<SMALL_ELEMENTS, SMALL_OBSERVED_NUMBERS, SMALL_STEP_SPACE>(
+            return step_in_space::<SMALL_ELEMENTS, SMALL_OBSERVED_NUMBERS, SMALL_STEP_PLACES>(
                 table, n, 0, basins, dams, bytes, state,
             );
         }
         if n <= MIDDLE_ELEMENTS {
-            return step_in_space::<MIDDLE_ELEMENTS, OBSERVED_NUMBERS, MIDDLE_STEP_SPACE>(
+            return step_in_space::<MIDDLE_ELEMENTS, OBSERVED_NUMBERS, MIDDLE_STEP_PLACES>(
                 table, n, 0, basins, dams, bytes, state,
             );
         }
     }
     if n + extra <= MEDIUM_PLACES {
-        return step_in_space::<MOST_ELEMENTS, OBSERVED_NUMBERS, MEDIUM_STEP_SPACE>(
+        return step_in_space::<MOST_ELEMENTS, OBSERVED_NUMBERS, MEDIUM_STEP_PLACES>(
             table, n, extra, basins, dams, bytes, state,
         );
     }
@@ -160,7 +161,7 @@ pub fn step_lent(
     counts: Counts,
     weights: &[u64],
     bytes: &[u8],
-    space: &mut [u64],
+    space: &mut [Figures],
     state: &mut [u64; STATE_NUMBERS],
 ) -> Result<(), Refusal>
     requires { LentGiven table.now counts weights.now space.old state.old }
@@ -170,7 +171,7 @@ pub fn step_lent(
     let extra = counts.extra;
     let mut observed = [0u64; OBSERVED_NUMBERS];
     judge_step(table, counts, bytes, &*state, &mut observed)?;
-    let room = 4 * (n + extra + 1);
+    let room = n + extra + 1;
     let part = &mut space[..room];
     clear(&mut *part);
     work_step(

@@ -24,7 +24,6 @@ use Rattle.state.specs.Rules.{state_fits}
 use Rattle.state.specs.Answers.{state_after, Answered}
 use Rattle.state.proofs.AnswerLaws.{answered-next, answered-not}
 use Rattle.table.specs.declared.Counts.{Counts}
-use Rattle.network.specs.Lent.{layout}
 use Rattle.entries.specs.Entries.{step_answer, step_on_answer, forecast_answer, forecast_on_answer}
 use Rattle.entries.proofs.NextLaws.{next_fits, next-length}
 use Rattle.text.specs.declared.TextSpace.{TextSpace}
@@ -93,25 +92,25 @@ module _ (t : TableValues) (bytes : List ℕ) (s after : State) (v : Result Unit
 -- ---- the lines of an accepted forecast
 
 -- by the counts of a table, and by what it says
-module _ (numbers : List ℕ) {n m l k : ℕ} (elements : n ≡ m) (leads : l ≡ k) where
-  under-by : FiguresUnderCeiling numbers (4 * (m * k)) → FiguresUnderCeiling numbers (4 * (n * l))
+module _ (figures : List Figures) {n m l k : ℕ} (elements : n ≡ m) (leads : l ≡ k) where
+  under-by : FiguresUnderCeiling figures (m * k) → FiguresUnderCeiling figures (n * l)
   under-by h = rw (elements, leads) h
 
-  lines-by : (steps : ℕ) → answer_lines steps l numbers n ≡ answer_lines steps k numbers m
+  lines-by : (steps : ℕ) → answer_lines steps l figures n ≡ answer_lines steps k figures m
   lines-by steps = rw (elements, leads)
 
 module _
-    {table : List ℕ} {counts : Counts} {weights : List ℕ} {s : State} {lent : List ℕ} {text : TextSpace} (p : RecordReady table counts weights s lent text)
-    {r : Result ℕ Refusal} {count : ℕ} {space : List ℕ} (h : ForecastHeld r space (table_in table) s) (accepts : r ≡ Ok count) where
+    {table : List ℕ} {counts : Counts} {weights : List ℕ} {s : State} {lent : List Figures} {text : TextSpace} (p : RecordReady table counts weights s lent text)
+    {r : Result ℕ Refusal} {count : ℕ} {space : List Figures} (h : ForecastHeld r space (table_in table) s) (accepts : r ≡ Ok count) where
   abbrev t : TableValues
   t = table_in table
 
   abbrev leads : ℕ
   leads = counts.leads + 1
 
-  -- as the code takes the numbers out of the space
-  abbrev numbers : List ℕ
-  numbers = take (length space - 4 * leads) (drop (4 * leads) space)
+  -- as the code takes the figures out of the space
+  abbrev all : List Figures
+  all = take (length space - leads) (drop leads space)
 
   elements_is : counts.elements ≡ t.elements
   elements_is = p.weighed.counted.counted.held.elements
@@ -128,34 +127,34 @@ module _
   lines-few : counts.elements * leads ≤ most_elements * (most_leads + 1)
   lines-few = few-lines counts.elements leads few-elements few-leads
 
-  shown : ForecastShown t s numbers
-  shown = forecast-shown t s p.state_kept r space h numbers accepts (rest_of space (4 * leads) (4 * (t.leads + 1)) (ap (λ (k : ℕ). 4 * k) leads-is))
+  shown : ForecastShown t s all
+  shown = forecast-shown t s p.state_kept r space h all accepts (rest_of space leads (t.leads + 1) leads-is)
 
-  pub lines-ready : length space ≡ length lent → LinesReady text numbers counts.elements leads
+  pub lines-ready : length space ≡ length lent → LinesReady text all counts.elements leads
   lines-ready size =
       record {
         room = omega (arith, lines-few, p.room);
         there = part_room space counts.elements leads few-leads lines-few (size ∙ p.space_full);
         elements_few = few-elements;
         leads_few = omega (arith, few-leads);
-        under = under-by numbers elements_is leads-is (shown-under t s numbers shown);
+        under = under-by all elements_is leads-is (shown-under t s all shown);
       }
 
   pub lines-printed :
       {after : TextSpace}
-      → TextPut text (answer_lines (steps_of s) leads numbers counts.elements) after
+      → TextPut text (answer_lines (steps_of s) leads all counts.elements) after
       → after.at ≤ text.at + 147 * (counts.elements * leads)
       → TextAnsweredOf false text after (forecast_printed t s (forecast_on_answer t s answer_numbers))
   unfolding forecast_printed figures_lines
   lines-printed put few =
-      let behind = drop (length (layout shown.figures)) numbers in
-      let same = lines-before (steps_of s) (t.leads + 1) t.elements (layout shown.figures) behind (omega (arith, shown.counted)) in
+      let behind = drop (length shown.figures) all in
+      let same = lines-before (steps_of s) (t.leads + 1) t.elements shown.figures behind (omega (arith, shown.counted)) in
       rw shown.answered
       (record {
         text =
             text-same
-            (lines-by numbers elements_is leads-is (steps_of s)
-            ∙ (ap (λ (l : List ℕ). answer_lines (steps_of s) (t.leads + 1) l t.elements) (sym shown.shown) ∙ same)) put;
+            (lines-by all elements_is leads-is (steps_of s)
+            ∙ (ap (λ (l : List Figures). answer_lines (steps_of s) (t.leads + 1) l t.elements) (sym shown.shown) ∙ same)) put;
         ended = refl;
         within = omega (arith, few, lines-few);
       })
@@ -203,7 +202,7 @@ module _ (t : TableValues) (bytes : List ℕ) (s : State) (bounds : AcceptedBoun
 
 -- and so for every record on what it relies on
 pub record-left :
-    (table bytes : List ℕ) (counts : Counts) (weights : List ℕ) (s : State) (space : List ℕ) (text : TextSpace) {after : State}
+    (table bytes : List ℕ) (counts : Counts) (weights : List ℕ) (s : State) (space : List Figures) (text : TextSpace) {after : State}
     → RecordReady table counts weights s space text
     → after ≡ (record_on_printed (table_in table) bytes s).state
     → (length after ≡ state_numbers) × (state_fits (table_in table) after ≡ true)

@@ -1,6 +1,7 @@
 -- Serves the code: what it relies on, and what it answers for a record.
+use Rattle.method.specs.declared.Figures.{Figures}
 use Rattle.std.specs.Prelude.{ℕ, ◌+◌, ◌≤◌, Bool, true, List, ◌≡◌, length}
-use Rattle.sizes.specs.Sizes.{state_numbers, forecast_space, text_bytes}
+use Rattle.sizes.specs.Sizes.{state_numbers, forecast_places, text_bytes}
 use Rattle.table.specs.InUse.{table_in}
 use Rattle.state.specs.States.{State}
 use Rattle.state.specs.Rules.{state_fits}
@@ -13,12 +14,12 @@ use Rattle.program.specs.Records.{Printed}
 -- an accepted table with its counts and weights, a state that rule 8 accepts, working space for a forecast, and room for a
 -- record's text
 pub record RecordReady
-    (table : List ℕ) (counts : Counts) (weights : List ℕ) (state : State) (space : List ℕ) (text : TextSpace)
+    (table : List ℕ) (counts : Counts) (weights : List ℕ) (state : State) (space : List Figures) (text : TextSpace)
     : Type 0 where
   pub weighed : Weighed table counts weights
   pub state_whole : length state ≡ state_numbers
   pub state_kept : state_fits (table_in table) state ≡ true
-  pub space_full : length space ≡ forecast_space
+  pub space_full : length space ≡ forecast_places
   pub room : text.at + text_bytes ≤ length text.bytes.now
 
 -- a text is put, as it is printed of a record

@@ -8,6 +8,7 @@ ghost use Rattle.program.specs.Records.{forecast_printed, record_on_printed};
 ghost use Rattle.report.specs.Answers.{RecordReady, TextAnsweredOf, Reported};
 
 use lines::put_lines;
+use method::Figures;
 use refusal_answer::answer_refusal;
 use sizes::STATE_NUMBERS;
 use table::Counts;
@@ -20,7 +21,7 @@ fn answer_forecast(
     counts: Counts,
     weights: &[u64],
     state: &[u64; STATE_NUMBERS],
-    space: &mut [u64],
+    space: &mut [Figures],
     fours: &DigitFours,
     text: &mut TextSpace<'_>,
 ) -> bool
@@ -30,10 +31,9 @@ fn answer_forecast(
     let answer = leads::forecast_in(table, counts, weights, state, space);
     let steps = state[1];
     let leads = counts.leads + 1;
-    let first = 4 * leads;
     match answer {
         Ok(_) => {
-            put_lines(text, &space[first..], steps, counts.elements, leads, fours);
+            put_lines(text, &space[leads..], steps, counts.elements, leads, fours);
             false
         }
         Err(refusal) => answer_refusal(refusal, steps, text),
@@ -48,7 +48,7 @@ pub fn answer_record(
     weights: &[u64],
     bytes: &[u8],
     state: &mut [u64; STATE_NUMBERS],
-    space: &mut [u64],
+    space: &mut [Figures],
     fours: &DigitFours,
     text: &mut TextSpace<'_>,
 ) -> bool

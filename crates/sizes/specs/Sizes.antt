@@ -31,7 +31,7 @@ answer_numbers = 4 * most_elements * (most_leads + 1)
 abbrev pub observed_numbers : ℕ
 observed_numbers = 2 * most_gauges
 
--- the working space of a step: four figures of each element, and of what leaves the river
+-- the places of the working space of a step: one for each place of the river, and one for what leaves it
 abbrev pub small_elements : ℕ
 small_elements = 4
 
@@ -42,34 +42,34 @@ middle_elements = 16
 abbrev pub small_observed_numbers : ℕ
 small_observed_numbers = 2 * small_elements
 
-abbrev pub small_step_space : ℕ
-small_step_space = 4 * (small_elements + 1)
+abbrev pub small_step_places : ℕ
+small_step_places = small_elements + 1
 
-abbrev pub middle_step_space : ℕ
-middle_step_space = 4 * (middle_elements + 1)
+abbrev pub middle_step_places : ℕ
+middle_step_places = middle_elements + 1
 
 abbrev pub medium_places : ℕ
 medium_places = 64
 
-abbrev pub medium_step_space : ℕ
-medium_step_space = 4 * (medium_places + 1)
+abbrev pub medium_step_places : ℕ
+medium_step_places = medium_places + 1
 
 -- M-107: an element has at most eight tanks
-abbrev pub step_space : ℕ
-step_space = 4 * (8 * most_elements + 1)
+abbrev pub step_places : ℕ
+step_places = 8 * most_elements + 1
 
--- the working space of a forecast: the same at leads 0 to L
-abbrev pub tiny_forecast_space : ℕ
-tiny_forecast_space = 24
+-- the places of the working space of a forecast: the same at leads 0 to L
+abbrev pub tiny_forecast_places : ℕ
+tiny_forecast_places = 6
 
-abbrev pub small_forecast_space : ℕ
-small_forecast_space = 128
+abbrev pub small_forecast_places : ℕ
+small_forecast_places = 32
 
-abbrev pub medium_forecast_space : ℕ
-medium_forecast_space = 520
+abbrev pub medium_forecast_places : ℕ
+medium_forecast_places = 130
 
-abbrev pub forecast_space : ℕ
-forecast_space = 4 * (most_elements + 8) * (most_leads + 1)
+abbrev pub forecast_places : ℕ
+forecast_places = (most_elements + 8) * (most_leads + 1)
 
 -- the elements that the first two have room for, at one lead
 abbrev pub tiny_forecast_elements : ℕ

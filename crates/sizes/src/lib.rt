@@ -23,8 +23,8 @@ pub const ANSWER_NUMBERS: usize = 4 * MOST_ELEMENTS * (MOST_LEADS + 1);
 // The numbers of what the gauges observed: a discharge and a noise each.
 pub const OBSERVED_NUMBERS: usize = 2 * MOST_GAUGES;
 
-// The numbers of the working space of a step, by the places of a river, its elements and the tanks above their last: four figures of each, and
-// of what leaves the river.
+// The places of the working space of a step, by those of a river, its elements and the tanks above their last: one for each, and one for
+// what leaves the river.
 pub const SMALL_ELEMENTS: usize = 4;
 
 pub const MIDDLE_ELEMENTS: usize = 16;
@@ -32,26 +32,26 @@ pub const MIDDLE_ELEMENTS: usize = 16;
 // What the gauges of a small river observed: it has no more gauges than elements.
 pub const SMALL_OBSERVED_NUMBERS: usize = 2 * SMALL_ELEMENTS;
 
-pub const SMALL_STEP_SPACE: usize = 4 * (SMALL_ELEMENTS + 1);
+pub const SMALL_STEP_PLACES: usize = SMALL_ELEMENTS + 1;
 
-pub const MIDDLE_STEP_SPACE: usize = 4 * (MIDDLE_ELEMENTS + 1);
+pub const MIDDLE_STEP_PLACES: usize = MIDDLE_ELEMENTS + 1;
 
 pub const MEDIUM_PLACES: usize = 64;
 
-pub const MEDIUM_STEP_SPACE: usize = 4 * (MEDIUM_PLACES + 1);
+pub const MEDIUM_STEP_PLACES: usize = MEDIUM_PLACES + 1;
 
 // An element has at most eight tanks.
-pub const STEP_SPACE: usize = 4 * (8 * MOST_ELEMENTS + 1);
+pub const STEP_PLACES: usize = 8 * MOST_ELEMENTS + 1;
 
-// The numbers of the working space of a forecast, the same at leads 0 to L: for two elements at one lead, for one element at all leads
+// The places of the working space of a forecast, the same at leads 0 to L: for two elements at one lead, for one element at all leads
 // (or fifteen at one), for nine elements at all leads (or all elements at one), and for any with the tanks of one element.
-pub const TINY_FORECAST_SPACE: usize = 24;
+pub const TINY_FORECAST_PLACES: usize = 6;
 
-pub const SMALL_FORECAST_SPACE: usize = 128;
+pub const SMALL_FORECAST_PLACES: usize = 32;
 
-pub const MEDIUM_FORECAST_SPACE: usize = 520;
+pub const MEDIUM_FORECAST_PLACES: usize = 130;
 
-pub const FORECAST_SPACE: usize = 4 * (MOST_ELEMENTS + 8) * (MOST_LEADS + 1);
+pub const FORECAST_PLACES: usize = (MOST_ELEMENTS + 8) * (MOST_LEADS + 1);
 
 // The elements that the first two of them have room for, at one lead.
 pub const TINY_FORECAST_ELEMENTS: usize = 2;

@@ -152,7 +152,7 @@ module _ (t : TableValues) where
 
 -- tanks whose places are given by another function that says the same
 pub same-places :
-    {c : ElementInput} {first : ℕ → Figures} {place other : ℕ → ℕ} {leads extra j : ℕ} {r : Result Unit Refusal} {before after : List ℕ}
+    {c : ElementInput} {first : ℕ → Figures} {place other : ℕ → ℕ} {leads extra j : ℕ} {r : Result Unit Refusal} {before after : List Figures}
     → ((k : ℕ) → place k ≡ other k)
     → TanksWorked c first place leads extra j r before after
     → TanksWorked c first other leads extra j r before after
@@ -167,16 +167,16 @@ module _ (t : TableValues) (s : State) (leads : ℕ) where
   wide = omega arith
 
   -- the first i elements are worked out at all leads
-  abbrev pub Forecast : ℕ → List ℕ → Type 0
+  abbrev pub Forecast : ℕ → List Figures → Type 0
   Forecast i space = Rests t (lead_own t s) no_observation (lead_figures t s) w 1 leads wide (IsLast t) (own_row t) (first_cell t i) space
 
   -- and the tanks of element i above its last
-  abbrev pub Ready : ℕ → List ℕ → Type 0
+  abbrev pub Ready : ℕ → List Figures → Type 0
   Ready i space =
       WalkedBy t (lead_own t s) no_observation (lead_figures t s) w 1 leads wide (IsLast t) (own_row t) (opening (resting t) (last_cell t i + 1) (i + 1))
       (last_cell t i) space
 
-  pub forecast-begin : (space : List ℕ) → ((p : ℕ) → figures_at space p ≡ no_inflow) → Forecast 0 space
+  pub forecast-begin : (space : List Figures) → ((p : ℕ) → figures_at space p ≡ no_inflow) → Forecast 0 space
   unfolding extra_before
   forecast-begin space none =
       walked-begin (cells t) (lead_own t s) no_observation (lead_figures t s) w 1 (IsLast t) (own_row t) (resting t) leads space none
@@ -189,7 +189,7 @@ module _ (t : TableValues) (s : State) (leads : ℕ) where
     rows = last-rows t (lead_own t s) (lead_figures t s) w 1 leads wide i used
 
     -- an element that is one cell is ready as it is
-    pub ready-one : {space : List ℕ} → extra ≡ 0 → Forecast i space → Ready i space
+    pub ready-one : {space : List Figures} → extra ≡ 0 → Forecast i space → Ready i space
     ready-one {space} none h =
         last-ready t _ _ _ w 1 leads wide (IsLast t) (own_row t) i used _ rows to there
         (subst
@@ -207,7 +207,7 @@ module _ (t : TableValues) (s : State) (leads : ℕ) where
       place_is j = tank-place (t.elements + 1) (i + 1) extra w 1 leads j
 
       module _
-          {r : Result Unit Refusal} {before after : List ℕ} (some : 0 < extra) (h : Forecast i before)
+          {r : Result Unit Refusal} {before after : List Figures} (some : 0 < extra) (h : Forecast i before)
           (g : TanksOpened r noise H extra (t.elements + extra_before t i) forecast_places s before after) where
         -- an element of tanks once they are worked out
         pub ready-tanks : r ≡ (Ok tt) → Ready i after
@@ -226,7 +226,7 @@ module _ (t : TableValues) (s : State) (leads : ℕ) where
 
     -- what drains below is small before the turn of the last cell
     pub ready-small :
-        {space : List ℕ}
+        {space : List Figures}
         → t.elements + extra_count t ≤ most_places
         → Ready i space
         → (l : ℕ)
@@ -242,7 +242,7 @@ module _ (t : TableValues) (s : State) (leads : ℕ) where
     -- the turn of the last cell
     module _
         (c : ElementInput) (of : InputOf (cells t) (lead_own t s) no_observation (lead_figures t s) w 1 (IsLast t) (own_row t) c (last_cell t i) leads)
-        (first : Figures) (is : first ≡ lead_figures t s 0 (last_cell t i)) {before : List ℕ} (h : Ready i before) where
+        (first : Figures) (is : first ≡ lead_figures t s 0 (last_cell t i)) {before : List Figures} (h : Ready i before) where
       -- where no number of the forecast passes, none of this cell does
       pub last_under : Under (lead_numbers t s leads) → Under (numbers_after c first (drained_at before ((i + 1) * w + 1)) leads)
       unfolding cells
@@ -253,12 +253,12 @@ module _ (t : TableValues) (s : State) (leads : ℕ) where
 
       -- one element more
       pub forecast-again :
-          {after : List ℕ} → LeadsDone c first ((i + 1) * w + 1) ((t.element i).down * w + 1) leads before after → Forecast (i + 1) after
+          {after : List Figures} → LeadsDone c first ((i + 1) * w + 1) ((t.element i).down * w + 1) leads before after → Forecast (i + 1) after
       forecast-again g =
           last_turn t _ _ _ w 1 leads wide (IsLast t) (own_row t) i used _ rows to there (figures-again t s) c of first is h g
 
   -- all elements: each has its figures in its row, whose are those of its last cell
-  module _ (space : List ℕ) (h : Forecast t.elements space) where
+  module _ (space : List Figures) (h : Forecast t.elements space) where
     pub forecast-at :
         (i l : ℕ) → i < t.elements → l < leads → figures_at space ((i + 1) * w + 1 + l) ≡ lead_figures t s (suc l) (last_cell t i)
     forecast-at i l used m =

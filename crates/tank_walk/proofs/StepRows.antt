@@ -113,7 +113,7 @@ module _ (t : TableValues) where
       extra-few : extra ≤ 7
       extra-few = omega (arith, extra-is, ((b.element i used).tanks kind).1)
 
-      step-there : (space : List ℕ) → 4 * (t.elements + extra_count t + 1) ≤ length space → TanksThere (step_places i) extra space
+      step-there : (space : List Figures) → t.elements + extra_count t + 1 ≤ length space → TanksThere (step_places i) extra space
       step-there space room =
           record {
             short = omega arith;
@@ -125,10 +125,10 @@ module _ (t : TableValues) where
             moved = inl (omega (arith, used));
           }
         where
-          at_last : 4 * (tank_place (step_places i) extra extra + 1) ≤ length space
+          at_last : tank_place (step_places i) extra extra + 1 ≤ length space
           at_last = omega (arith, place-last (step_places i) extra, room, used)
 
-          at_inner : (j : ℕ) → j < extra → 4 * (tank_place (step_places i) extra j + 1) ≤ length space
+          at_inner : (j : ℕ) → j < extra → tank_place (step_places i) extra j + 1 ≤ length space
           at_inner j l = omega (arith, place-inner (step_places i) extra j l, room, l, all-extra)
 
           last_apart : (j : ℕ) → j < extra → j + 1 ≡ extra → Apart (tank_place (step_places i) extra j) (tank_place (step_places i) extra (j + 1)) 1
@@ -140,9 +140,9 @@ module _ (t : TableValues) where
           next-apart j l m = inl (omega (arith, place-inner (step_places i) extra j l, place-inner (step_places i) extra (j + 1) m))
 
       pub step-tanks-ready :
-          {noise weight : ℕ} {s : State} {space : List ℕ}
+          {noise weight : ℕ} {s : State} {space : List Figures}
           → StateBounds t s
-          → 4 * (t.elements + extra_count t + 1) ≤ length space
+          → t.elements + extra_count t + 1 ≤ length space
           → noise ≡ (t.element i).system_noise.0
           → weight ≤ S
           → TanksReady noise weight extra (t.elements + extra_before t i) 0 (step_places i) s space
@@ -173,7 +173,7 @@ first-place p = omega arith
 
 module _ (t : TableValues) (own : ℕ → ℕ → Figures) (o : ℕ → (Option RatedReading)) (old : ℕ → ℕ → Figures) where
   -- the first cells are worked out
-  abbrev pub StepWalked : (ℕ → Inlet) → ℕ → List ℕ → Type 0
+  abbrev pub StepWalked : (ℕ → Inlet) → ℕ → List Figures → Type 0
   StepWalked inlet c space = Walked (cells t) own o old 1 0 EveryCell (cell_row t) inlet 1 c space
 
   abbrev pub StepInputOf : ElementInput → ℕ → Type 0
@@ -197,11 +197,11 @@ module _ (t : TableValues) (own : ℕ → ℕ → Figures) (o : ℕ → (Option 
     d = (t.element i).down
 
     -- the first i elements, and of element i all cells but the last
-    abbrev pub ReadyAt : List ℕ → Type 0
+    abbrev pub ReadyAt : List Figures → Type 0
     ReadyAt = StepWalked (opening (resting t) (last_cell t i + 1) (i + 1)) (last_cell t i)
 
     -- an element that is one cell
-    pub ready-one : {space : List ℕ} → extra_tanks (t.element i) ≡ 0 → StepWalked (resting t) (first_cell t i) space → ReadyAt space
+    pub ready-one : {space : List Figures} → extra_tanks (t.element i) ≡ 0 → StepWalked (resting t) (first_cell t i) space → ReadyAt space
     ready-one {space} none h =
         last-ready t own o old 1 0 1 wide EveryCell (cell_row t) i used (tank_start t i) (kept-rows i used) to there
         (subst
@@ -211,7 +211,7 @@ module _ (t : TableValues) (own : ℕ → ℕ → Figures) (o : ℕ → (Option 
 
     -- an element of tanks, once those above the last are worked out
     module _
-        {noise weight : ℕ} {s : State} {r : Result Unit Refusal} {before after : List ℕ} (some : 0 < extra_tanks (t.element i))
+        {noise weight : ℕ} {s : State} {r : Result Unit Refusal} {before after : List Figures} (some : 0 < extra_tanks (t.element i))
         (of : (j : ℕ) → j < extra_tanks (t.element i) → StepInputOf (tank_input noise weight None) (first_cell t i + j))
         (is : (k : ℕ) → figures_of s (cell_place t k) ≡ old 0 k) (h : StepWalked (resting t) (first_cell t i) before)
         (g : TanksOpened r noise weight (extra_tanks (t.element i)) (t.elements + extra_before t i) (step_places t i) s before after) where
@@ -243,7 +243,7 @@ module _ (t : TableValues) (own : ℕ → ℕ → Figures) (o : ℕ → (Option 
           tanks-refused t own o old 1 0 1 wide EveryCell (cell_row t) i used (tank_start t i) (kept-rows i used) again _ of _ figures-are worked e opened
           (λ l m. subst (λ (k : ℕ). Under (numbers_at (cells t) own o old 1 0 EveryCell (cell_row t) k (cells t).elements)) (omega arith) u)
 
-    module _ {before : List ℕ} (h : ReadyAt before) where
+    module _ {before : List Figures} (h : ReadyAt before) where
       -- the sums of the element below are small
       pub ready-small : last_cell t i < most_places → FiguresBelow (figures_at before d) most_sum_before
       ready-small few =
@@ -259,7 +259,7 @@ module _ (t : TableValues) (own : ℕ → ℕ → Figures) (o : ℕ → (Option 
 
       module _ {c : ElementInput} {first : Figures} (of : StepInputOf c (last_cell t i)) (is : first ≡ old 0 (last_cell t i)) where
         -- one element more
-        pub element-turn : {after : List ℕ} → LeadsDone c first (i + 1) d 1 before after → StepWalked (resting t) (first_cell t (i + 1)) after
+        pub element-turn : {after : List Figures} → LeadsDone c first (i + 1) d 1 before after → StepWalked (resting t) (first_cell t (i + 1)) after
         element-turn {after} g =
             last_turn t own o old 1 0 1 wide EveryCell (cell_row t) i used (tank_start t i) (kept-rows i used) to there again c of first is h
             (subst (λ (p : ℕ). LeadsDone c first ((i + 1) * 1 + 0) p 1 before after) (sym (one_place d))

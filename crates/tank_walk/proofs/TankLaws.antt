@@ -39,7 +39,7 @@ unfolding no_inflow
 none-small = record { discharge = omega arith; discharge_margin = omega arith; variance = omega arith; variance_margin = omega arith }
 
 -- the same places in a space as long
-pub there-again : {p : TankPlaces} {extra : ℕ} {space next : List ℕ} → TanksThere p extra space → length next ≡ length space → TanksThere p extra next
+pub there-again : {p : TankPlaces} {extra : ℕ} {space next : List Figures} → TanksThere p extra space → length next ≡ length space → TanksThere p extra next
 there-again g size =
     record {
       short = g.short;
@@ -52,10 +52,10 @@ there-again g size =
     }
 
 module _
-    {noise weight extra j : ℕ} {p : TankPlaces} {first : Figures} {before : List ℕ}
+    {noise weight extra j : ℕ} {p : TankPlaces} {first : Figures} {before : List Figures}
     (g : TankTurnReady noise weight extra j p first before) where
   module _
-      {a b : ℕ} (is-a : a ≡ tank_place p extra j) (is_b : b ≡ tank_place p extra (j + 1)) {middle : List ℕ}
+      {a b : ℕ} (is-a : a ≡ tank_place p extra j) (is_b : b ≡ tank_place p extra (j + 1)) {middle : List Figures}
       (cleared : RowCleared b p.leads before middle) where
     pub turn-ready : length middle ≡ length before → TankReady (tank_input noise weight None) first a b p.leads middle
     unfolding ObservationFits
@@ -81,18 +81,18 @@ module _
 -- ---- one after the other
 
 -- what the loop over them holds before tank j: what is then worked out of the rest is so of all
-pub record TanksSoFar (noise weight extra x : ℕ) (p : TankPlaces) (s : State) (before : List ℕ) (j : ℕ) (now : List ℕ) : Type 0 where
+pub record TanksSoFar (noise weight extra x : ℕ) (p : TankPlaces) (s : State) (before : List Figures) (j : ℕ) (now : List Figures) : Type 0 where
   pub ready : TanksReady noise weight extra x j p s now
   pub rest :
-      (r : Result Unit Refusal) (after : List ℕ)
+      (r : Result Unit Refusal) (after : List Figures)
       → TanksAnswered r noise weight extra x j p s now after
       → TanksAnswered r noise weight extra x 0 p s before after
 
-module _ {noise weight extra x : ℕ} {p : TankPlaces} {s : State} {before : List ℕ} where
+module _ {noise weight extra x : ℕ} {p : TankPlaces} {s : State} {before : List Figures} where
   pub tanks-begin : TanksReady noise weight extra x 0 p s before → TanksSoFar noise weight extra x p s before 0 before
   tanks-begin ready = record { ready = ready; rest = λ r after w. w }
 
-  module _ {j : ℕ} {now : List ℕ} (h : TanksSoFar noise weight extra x p s before j now) where
+  module _ {j : ℕ} {now : List Figures} (h : TanksSoFar noise weight extra x p s before j now) where
     -- none is left
     pub tanks-ended : j ≡ extra → TanksAnswered (Ok tt) noise weight extra x 0 p s before now
     tanks-ended last = h.rest _ _ (done last)
@@ -104,7 +104,7 @@ module _ {noise weight extra x : ℕ} {p : TankPlaces} {s : State} {before : Lis
           let g = h.ready in
           rw old (record { there = g.there; tank = left; system_noise = g.system_noise; weighed = g.weighed; fits = g.fits j left })
 
-      module _ {r : Result Unit Refusal} {next : List ℕ} (t : TankTurned r noise weight extra j p first now next) where
+      module _ {r : Result Unit Refusal} {next : List Figures} (t : TankTurned r noise weight extra j p first now next) where
         turn : TankTurn (tank_input noise weight None) (λ k. figures_of s (x + k)) (tank_place p extra) p.leads extra j r now next
         turn = record { middle = t.middle; row = t.row; worked = rw old at t.worked }
 
@@ -136,7 +136,7 @@ module _ {noise weight extra x : ℕ} {p : TankPlaces} {s : State} {before : Lis
 
 -- the tanks are refused by 16
 pub tanks-16 :
-    {c : ElementInput} {first : ℕ → Figures} {place : ℕ → ℕ} {leads extra j : ℕ} {r : Result Unit Refusal} {k : Refusal} {before after : List ℕ}
+    {c : ElementInput} {first : ℕ → Figures} {place : ℕ → ℕ} {leads extra j : ℕ} {r : Result Unit Refusal} {k : Refusal} {before after : List Figures}
     → TanksWorked c first place leads extra j r before after
     → r ≡ Err k
     → number k ≡ 16
@@ -146,7 +146,7 @@ tanks-16 (more l e m rest) a = tanks-16 rest a
 
 -- ---- opening an element
 
-module _ {noise weight extra x : ℕ} {p : TankPlaces} {s : State} {before : List ℕ} (g : TanksReady noise weight extra x 0 p s before) where
+module _ {noise weight extra x : ℕ} {p : TankPlaces} {s : State} {before : List Figures} (g : TanksReady noise weight extra x 0 p s before) where
   pub move-ready : MoveReady p.own p.first p.leads before
   move-ready =
       record {

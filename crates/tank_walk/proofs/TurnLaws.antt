@@ -61,10 +61,10 @@ module _ (t : TableValues) where
 module _
     (t : TableValues) (own : ℕ → ℕ → Figures) (o : ℕ → (Option RatedReading)) (old : ℕ → ℕ → Figures) (w from leads : ℕ)
     (wide : from + leads ≤ w) (Kept : ℕ → Type 0) (at : ℕ → ℕ) where
-  abbrev pub WalkedBy : (ℕ → Inlet) → ℕ → List ℕ → Type 0
+  abbrev pub WalkedBy : (ℕ → Inlet) → ℕ → List Figures → Type 0
   WalkedBy inlet i space = Walked (cells t) own o old w from Kept at inlet leads i space
 
-  abbrev pub Rests : ℕ → List ℕ → Type 0
+  abbrev pub Rests : ℕ → List Figures → Type 0
   Rests = WalkedBy (resting t)
 
   other_row : (k j l m : ℕ) → k ≢ j → l < leads → m < leads → k * w + from + l ≢ j * w + from + m
@@ -137,7 +137,7 @@ module _
     -- ---- opening
 
     -- an element that is one cell
-    pub open-one : {space : List ℕ} → extra ≡ 0 → Rests (first_cell t i) space → WalkedBy (tank_inlet 0) (cell 0) space
+    pub open-one : {space : List Figures} → extra ≡ 0 → Rests (first_cell t i) space → WalkedBy (tank_inlet 0) (cell 0) space
     open-one {space} none h =
         let e : first_cell t i ≡ cell 0 = omega arith in
         subst (λ (c : ℕ). WalkedBy (tank_inlet 0) c space) e
@@ -152,7 +152,7 @@ module _
 
     -- an element of tanks: its sums are moved to the first scratch row
     pub open-tanks :
-        {before after : List ℕ}
+        {before after : List Figures}
         → 0 < extra
         → Rests (first_cell t i) before
         → RowMoved ((i + 1) * w + from) (scratch * w + from) leads before after
@@ -214,7 +214,7 @@ module _
 
       -- the row below has nothing in it
       open_next :
-          {before after : List ℕ}
+          {before after : List Figures}
           → WalkedBy (tank_inlet j) (cell j) before
           → RowCleared (tank_at (j + 1) * w + from) leads before after
           → WalkedBy turn_inlet (cell j) after
@@ -255,7 +255,7 @@ module _
           (again : (l k : ℕ) → old (suc l) k ≡ new_at (cells t) own o old w from Kept at l k) (c : ElementInput)
           (of : InputOf (cells t) own o old w from Kept at c (cell j) leads) (first : Figures) (is : first ≡ old 0 (cell j)) where
         pub tank-turn :
-            {before cleared after : List ℕ}
+            {before cleared after : List Figures}
             → WalkedBy (tank_inlet j) (cell j) before
             → RowCleared (tank_at (j + 1) * w + from) leads before cleared
             → LeadsDone c first (tank_at j * w + from) (tank_at (j + 1) * w + from) leads cleared after
@@ -319,7 +319,7 @@ module _
               ((waits extra k r (⊎_elim (λ z. inl z) (λ l. inr (omega (arith, l))) later) e).other, λ q. apart (h.is ∙ ap (inlet_of t) q))
 
       -- all tanks are done but the last
-      pub last-ready : {space : List ℕ} → WalkedBy (tank_inlet extra) (cell extra) space → WalkedBy last_inlet (last_cell t i) space
+      pub last-ready : {space : List Figures} → WalkedBy (tank_inlet extra) (cell extra) space → WalkedBy last_inlet (last_cell t i) space
       unfolding last_cell extra_before
       last-ready {space} h =
           let e : cell extra ≡ last_cell t i = omega arith in
@@ -334,7 +334,7 @@ module _
           → InputOf (cells t) own o old w from Kept at c (last_cell t i) leads
           → (first : Figures)
           → first ≡ old 0 (last_cell t i)
-          → {before after : List ℕ}
+          → {before after : List Figures}
           → WalkedBy last_inlet (last_cell t i) before
           → LeadsDone c first ((i + 1) * w + from) (d * w + from) leads before after
           → Rests (first_cell t (i + 1)) after
@@ -352,11 +352,11 @@ module _
         (again : (l k : ℕ) → old (suc l) k ≡ new_at (cells t) own o old w from Kept at l k) (c : ElementInput)
         (of : (j : ℕ) → j < extra → InputOf (cells t) own o old w from Kept at c (cell j) leads) (first : ℕ → Figures)
         (is : (j : ℕ) → j < extra → first j ≡ old 0 (cell j)) where
-      abbrev pub TanksAt : ℕ → Result Unit Refusal → List ℕ → List ℕ → Type 0
+      abbrev pub TanksAt : ℕ → Result Unit Refusal → List Figures → List Figures → Type 0
       TanksAt = TanksWorked c first (λ j. tank_at j * w + from) leads extra
 
       pub tanks-walked :
-          {j : ℕ} {r : Result Unit Refusal} {before after : List ℕ}
+          {j : ℕ} {r : Result Unit Refusal} {before after : List Figures}
           → TanksAt j r before after
           → r ≡ (Ok tt)
           → WalkedBy (tank_inlet j) (cell j) before
@@ -368,7 +368,7 @@ module _
 
       -- 16 at one of them: some number of the network passes
       pub tanks-refused :
-          {j : ℕ} {r : Result Unit Refusal} {k : Refusal} {before after : List ℕ}
+          {j : ℕ} {r : Result Unit Refusal} {k : Refusal} {before after : List Figures}
           → TanksAt j r before after
           → r ≡ Err k
           → WalkedBy (tank_inlet j) (cell j) before

@@ -48,19 +48,19 @@ fn tank_place(places: TankPlaces, extra: usize, j: usize) -> usize
 }
 
 // Nothing at so many places.
-fn clear_row(place: usize, leads: usize, space: &mut [u64])
-    requires { 4 * (place + leads) ≤ length space.old }
+fn clear_row(place: usize, leads: usize, space: &mut [Figures])
+    requires { place + leads ≤ length space.old }
     ensures { RowCleared place leads space.old space.new }
 {
-    space[4 * place..4 * (place + leads)].fill(0);
+    space[place..place + leads].fill(Figures::NONE);
 }
 
 // What stands at so many places, at others.
-fn move_row(source: usize, place: usize, leads: usize, space: &mut [u64])
+fn move_row(source: usize, place: usize, leads: usize, space: &mut [Figures])
     requires { MoveReady source place leads space.old }
     ensures { RowMoved source place leads space.old space.new }
 {
-    space.copy_within(4 * source..4 * (source + leads), 4 * place);
+    space.copy_within(source..source + leads, place);
 }
 
 // Tank j, from its figures before: the places of the next, cleared first, take what it lets out. 16 where a number passes the ceiling.
@@ -71,7 +71,7 @@ fn work_tank(
     j: usize,
     places: TankPlaces,
     first: Figures,
-    space: &mut [u64],
+    space: &mut [Figures],
 ) -> Result<(), Refusal>
     requires { TankTurnReady noise weight extra j places first space.old }
     ensures { TankTurned result noise weight extra j places first space.old space.new }
@@ -92,7 +92,7 @@ fn work_tanks(
     x: usize,
     places: TankPlaces,
     state: &[u64; STATE_NUMBERS],
-    space: &mut [u64],
+    space: &mut [Figures],
 ) -> Result<(), Refusal>
     requires { TanksReady noise weight extra x 0 places state.now space.old }
     ensures { TanksAnswered result noise weight extra x 0 places state.now space.old space.new }
@@ -113,7 +113,7 @@ pub fn open_tanks(
     x: usize,
     places: TankPlaces,
     state: &[u64; STATE_NUMBERS],
-    space: &mut [u64],
+    space: &mut [Figures],
 ) -> Result<(), Refusal>
     requires { TanksReady noise weight extra x 0 places state.now space.old }
     ensures { TanksOpened result noise weight extra x places state.now space.old space.new }

@@ -1,16 +1,15 @@
--- The figures of a trial: those that the step would leave, copied out of the working space; its rules in checking order.
+-- The figures of a trial: those that the step would leave, laid out from the working space; its rules in checking order.
 use Prim.{Unit}
 use Rattle.std.specs.Prelude.{Result, Ok, Err, IsErrAnd}
 use Rattle.refusal.specs.Answers.{accepted, rule, answer_of}
 use Rattle.state_rules.proofs.JudgedLaws.{judged-refused}
 use Prim.Native.Nat.{ℕ, zero, suc, ◌+◌, ◌*◌, ◌≤◌, ◌<◌}
-use mathlib.Core.List.{List}
+use mathlib.Core.List.{List, ◌++◌}
 use mathlib.Core.Path.{◌≡◌, refl, sym, ap, ◌∙◌}
 use native.Mathlib.Nat.{mul-one}
 use native.Mathlib.Omega.{arith}
 use lib.ListN.{length, take, drop, length-drop}
-use lib.Seq.{paste}
-use Rattle.sizes.specs.Sizes.{most_elements, most_places}
+use Rattle.sizes.specs.Sizes.{most_places}
 use Rattle.refusal.specs.declared.Refusal.{Refusal}
 use Rattle.table.specs.Tables.{TableValues}
 use Rattle.table.specs.KindCounts.{extra_count}
@@ -23,9 +22,10 @@ use Rattle.state.specs.States.{State}
 use Rattle.state.specs.Rules.{state_fits}
 use Rattle.network.specs.Step.{stepped}
 use Rattle.network.specs.Forecast.{lead_figures}
-use Rattle.network.specs.Lent.{layout}
+use Rattle.method.specs.Figures.{layout}
 use Rattle.network.proofs.StepLaws.{stepped-figures}
-use Rattle.network.proofs.LayoutLaws.{layout-length, by-lead-length}
+use Rattle.method.proofs.LayoutLaws.{layout-length}
+use Rattle.network.proofs.LayoutLaws.{by-lead-length}
 use Rattle.network.proofs.LentLaws.{lent-refused, figures-lent}
 use Rattle.answer_space.specs.Places.{figures_at}
 use Rattle.next_state.specs.Written.{FiguresHeld}
@@ -75,23 +75,23 @@ module _ (table bytes : List ℕ) (s : State) where
   unfolding tried_answer worked_answer
   tried-as room = refl
 
-  module _ {v : Result Unit Refusal} {space : List ℕ} (out : List ℕ) (w : RecordWorked v space t bytes s (length out)) where
+  module _ {v : Result Unit Refusal} {space : List Figures} (out : List ℕ) (w : RecordWorked v space t bytes s (length out)) where
     rules-refused : (k : Refusal) → v ≡ Err k → TrialHeld (Err k) out table bytes s out
     rules-refused k e =
         lent-refused out _ k (tried-as (length out) ∙ worked-refused t bytes s (length out) _ (sym w.decided ∙ ap answer_of e))
 
-    module _ (few : t.elements + extra_count t ≤ most_places) (room : 4 * (t.elements + 1) ≤ length space) where
+    module _ (few : t.elements + extra_count t ≤ most_places) (room : t.elements + 1 ≤ length space) where
       unfoldable figures : ℕ → ℕ → Figures
       figures i lead = lead_figures t next lead (last_cell t i)
 
       -- the figures stand after the place of what leaves the river, of tanks those of the last
-      laid : FiguresHeld space t bytes s → take (4 * t.elements) (drop 4 space) ≡ layout (state_figures t next)
+      laid : FiguresHeld space t bytes s → take t.elements (drop 1 space) ≡ state_figures t next
       unfolding state_figures lead_figures cells figures
       laid h =
-          ap (λ (k : ℕ). take (4 * k) (drop 4 space)) (sym (mul-one t.elements))
-          ∙ answer-laid (drop 4 space) figures t.elements 1 at (omega (arith, room, length-drop 4 space))
+          ap (λ (k : ℕ). take k (drop 1 space)) (sym (mul-one t.elements))
+          ∙ answer-laid (drop 1 space) figures t.elements 1 at (omega (arith, room, length-drop 1 space))
         where
-          at : (i lead : ℕ) → i < t.elements → lead < 1 → figures_at (drop 4 space) (i * 1 + lead) ≡ figures i lead
+          at : (i lead : ℕ) → i < t.elements → lead < 1 → figures_at (drop 1 space) (i * 1 + lead) ≡ figures i lead
           at i zero l m =
               let used : last_cell t i < t.elements + extra_count t = last-most t i l in
               let place : 1 + (i * 1 + 0) ≡ cell_place t (last_cell t i) + 1 = omega (arith, last-place t i l) in
@@ -108,25 +108,28 @@ module _ (table bytes : List ℕ) (s : State) where
           same e = omega (arith, e)
 
       all-written :
-          {after : List ℕ} {needed : ℕ}
+          {n : ℕ} {after : List ℕ}
           → v ≡ (Ok tt)
-          → needed ≡ 4 * t.elements
-          → after ≡ paste out 0 (drop 4 space) needed
-          → TrialHeld (Ok needed) after table bytes s out
+          → n ≡ t.elements
+          → after ≡ layout (take n (drop 1 space)) ++ drop (4 * n) out
+          → TrialHeld (Ok (4 * n)) after table bytes s out
       all-written e is a =
-          figures-lent out (drop 4 space)
-          (tried-as (length out) ∙ worked-accepted t bytes s (length out) _ (sym w.decided ∙ ap answer_of e))
-          layout-size (laid (w.held e)) is a is
+          figures-lent out (tried-as (length out) ∙ worked-accepted t bytes s (length out) _ (sym w.decided ∙ ap answer_of e)) layout-size
+          (rw (is, laid (w.held e)) at a) (ap (λ (k : ℕ). 4 * k) is)
 
   -- the answer by what was worked out
-  module _ {n extra basins dams : ℕ} (g : RiverGiven table n extra basins dams s) (out : List ℕ) {v : Result Unit Refusal} {space : List ℕ}
+  module _ {n extra basins dams : ℕ} (g : RiverGiven table n extra basins dams s) (out : List ℕ) {v : Result Unit Refusal} {space : List Figures}
       (w : RecordWorked v space t bytes s (length out)) where
-    pub figures-ready : 4 * (n + 1) ≤ length space → v ≡ Ok tt → (n ≤ most_elements) × ((4 * (n + 1) ≤ length space) × (4 * n ≤ length out))
-    figures-ready room e = (omega (arith, g.elements, g.accepts.bounds.elements_most), (room, omega (arith, w.enough e, g.elements)))
+    pub figures-ready : n + 1 ≤ length space → v ≡ Ok tt → (n < length space) × (4 * n ≤ length out)
+    figures-ready room e = (omega (arith, room), omega (arith, w.enough e, g.elements))
 
     pub trial-refused : (r : Result ℕ Refusal) (k : Refusal) → v ≡ Err k → IsErrAnd r (λ (e : Refusal). e ≡ k) → TrialHeld r out table bytes s out
     trial-refused r k e p = rw (err-passed r k p) (rules-refused out w k e)
 
-    pub trial-accepted : {after : List ℕ} → 4 * (n + 1) ≤ length space → v ≡ Ok tt → after ≡ paste out 0 (drop 4 space) (4 * n) → TrialHeld (Ok (4 * n)) after table bytes s out
-    trial-accepted room e a =
-        all-written out w g.accepts.bounds.places_most (omega (arith, room, g.elements)) e (ap (λ (k : ℕ). 4 * k) g.elements) a
+    pub trial-accepted :
+        {after : List ℕ}
+        → n + 1 ≤ length space
+        → v ≡ Ok tt
+        → after ≡ layout (take n (drop 1 space)) ++ drop (4 * n) out
+        → TrialHeld (Ok (4 * n)) after table bytes s out
+    trial-accepted room e a = all-written out w g.accepts.bounds.places_most (omega (arith, room, g.elements)) e g.elements a

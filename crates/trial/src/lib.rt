@@ -11,18 +11,20 @@ ghost use Rattle.entries.specs.Trials.{trial_answer};
 ghost use Rattle.trial.specs.Held.{TrialHeld};
 
 use answer_space::write_figures;
+use method::Figures;
 use record_step::work_record;
 use refusal::Refusal;
 use sizes::{
-    MEDIUM_PLACES, MEDIUM_STEP_SPACE, MIDDLE_ELEMENTS, MIDDLE_STEP_SPACE, MOST_ELEMENTS,
-    OBSERVED_NUMBERS, SMALL_ELEMENTS, SMALL_OBSERVED_NUMBERS, SMALL_STEP_SPACE, STATE_NUMBERS,
-    STEP_SPACE,
+    MEDIUM_PLACES, MEDIUM_STEP_PLACES, MIDDLE_ELEMENTS, MIDDLE_STEP_PLACES, MOST_ELEMENTS,
+    OBSERVED_NUMBERS, SMALL_ELEMENTS, SMALL_OBSERVED_NUMBERS, SMALL_STEP_PLACES, STATE_NUMBERS,
+    STEP_PLACES,
 };
 use state_rules::judge_state;
 use table::Counts;
 
-// A trial that rule 8 accepts, in a working space of its own: E weights, so many numbers for what the gauges observe, and so many to work in.
-fn trial_in_space<const E: usize, const OBSERVED: usize, const NUMBERS: usize>(
+// A trial that rule 8 accepts, in a working space of its own: E weights, so many numbers for what the gauges observe, and so many
+// places to work in.
+fn trial_in_space<const E: usize, const OBSERVED: usize, const PLACES: usize>(
     table: &[u8],
     n: usize,
     basins: usize,
@@ -31,12 +33,12 @@ fn trial_in_space<const E: usize, const OBSERVED: usize, const NUMBERS: usize>(
     state: &[u64; STATE_NUMBERS],
     out: &mut [u64],
 ) -> Result<usize, Refusal>
-    requires { RiverGiven table.now n (extra_count (table_in table.now)) basins dams state.now × SpaceGiven (table_in table.now) n (extra_count (table_in table.now)) E OBSERVED NUMBERS }
+    requires { RiverGiven table.now n (extra_count (table_in table.now)) basins dams state.now × SpaceGiven (table_in table.now) n (extra_count (table_in table.now)) E OBSERVED PLACES }
     ensures { TrialHeld result out.new table.now bytes.now state.now out.old }
 {
     let mut own = [0u64; E];
     let mut observed = [0u64; OBSERVED];
-    let mut space = [0u64; NUMBERS];
+    let mut space = [Figures::NONE; PLACES];
     work_record(
         table,
         basins,
@@ -66,7 +68,7 @@ fn trial_in_largest_space(
     requires { RiverGiven table.now n (extra_count (table_in table.now)) basins dams state.now }
     ensures { TrialHeld result out.new table.now bytes.now state.now out.old }
 {
-    trial_in_space::<MOST_ELEMENTS, OBSERVED_NUMBERS, STEP_SPACE>(
+    trial_in_space::<MOST_ELEMENTS, OBSERVED_NUMBERS, STEP_PLACES>(
         table, n, basins, dams, bytes, state, out,
     )
 }
@@ -88,17 +90,17 @@ fn trial_counted(
     let places = n + counts.extra;
     judge_state(table, n, counts.extra, state)?;
     if places <= SMALL_ELEMENTS {
-        return trial_in_space::<SMALL_ELEMENTS, SMALL_OBSERVED_NUMBERS, SMALL_STEP_SPACE>(
+        return trial_in_space::<SMALL_ELEMENTS, SMALL_OBSERVED_NUMBERS, SMALL_STEP_PLACES>(
             table, n, basins, dams, bytes, state, out,
         );
     }
     if places <= MIDDLE_ELEMENTS {
-        return trial_in_space::<MIDDLE_ELEMENTS, OBSERVED_NUMBERS, MIDDLE_STEP_SPACE>(
+        return trial_in_space::<MIDDLE_ELEMENTS, OBSERVED_NUMBERS, MIDDLE_STEP_PLACES>(
             table, n, basins, dams, bytes, state, out,
         );
     }
     if places <= MEDIUM_PLACES {
-        return trial_in_space::<MOST_ELEMENTS, OBSERVED_NUMBERS, MEDIUM_STEP_SPACE>(
+        return trial_in_space::<MOST_ELEMENTS, OBSERVED_NUMBERS, MEDIUM_STEP_PLACES>(
             table, n, basins, dams, bytes, state, out,
         );
     }

@@ -13,11 +13,11 @@ use Rattle.leads.proofs.forecast_on.Goals as goal
 
 module _ {bytes : List ℕ} {n L T : ℕ} {s : State} (g : ForecastGiven bytes n L T s) where
   -- a space that has room, and how many elements a river has that it has room for
-  module _ {extra room : ℕ} (e : extra ≡ extra_count (table_in bytes)) (r : room ≡ 4 * (n + 1 + min extra 7) * (L + 1)) where
+  module _ {extra room : ℕ} (e : extra ≡ extra_count (table_in bytes)) (r : room ≡ (n + 1 + min extra 7) * (L + 1)) where
     roomy : {size : ℕ} → room ≤ size → space_size (table_in bytes) ≤ size
     roomy l = omega (arith, l, space-size g e r)
 
-    few : {size : ℕ} → room ≤ size → 8 * ((table_in bytes).elements + 1) ≤ size
+    few : {size : ℕ} → room ≤ size → 2 * ((table_in bytes).elements + 1) ≤ size
     few l = elements-few g (roomy l)
 
     ready :
@@ -43,31 +43,31 @@ returns-then-out-answer_numbers c =
 pub in_space-requires : goal.in_space-requires
 in_space-requires c =
     let g = given c.requires.0 c.requires.1 in
-    let r = c.space_numbers-room.ensures.0 in
-    let l = c.if-room-le-TINY_FORECAST_SPACE.true in (
+    let r = c.space_places-room.ensures.0 in
+    let l = c.if-room-le-TINY_FORECAST_PLACES.true in (
       record { own_most = omega arith; room_most = omega arith },
       ready g c.requires.0.extra r _ _ c.answer_numbers.ensures.0 c.if-out-answer_numbers.false l (omega (arith, few g c.requires.0.extra r l)),
     )
 
-pub in_space-requires-then-room-le-SMALL_FORECAST_SPACE : goal.in_space-requires-then-room-le-SMALL_FORECAST_SPACE
-in_space-requires-then-room-le-SMALL_FORECAST_SPACE c =
+pub in_space-requires-then-room-le-SMALL_FORECAST_PLACES : goal.in_space-requires-then-room-le-SMALL_FORECAST_PLACES
+in_space-requires-then-room-le-SMALL_FORECAST_PLACES c =
     let g = given c.requires.0 c.requires.1 in
-    let r = c.space_numbers-room.ensures.0 in
-    let l = c.if-room-le-SMALL_FORECAST_SPACE.true in (
+    let r = c.space_places-room.ensures.0 in
+    let l = c.if-room-le-SMALL_FORECAST_PLACES.true in (
       record { own_most = omega arith; room_most = omega arith },
       ready g c.requires.0.extra r _ _ c.answer_numbers.ensures.0 c.if-out-answer_numbers.false l (omega (arith, few g c.requires.0.extra r l)),
     )
 
-pub in_space-requires-then-room-le-MEDIUM_FORECAST_SPACE : goal.in_space-requires-then-room-le-MEDIUM_FORECAST_SPACE
-in_space-requires-then-room-le-MEDIUM_FORECAST_SPACE c =
+pub in_space-requires-then-room-le-MEDIUM_FORECAST_PLACES : goal.in_space-requires-then-room-le-MEDIUM_FORECAST_PLACES
+in_space-requires-then-room-le-MEDIUM_FORECAST_PLACES c =
     let g = given c.requires.0 c.requires.1 in
-    let l = c.if-room-le-MEDIUM_FORECAST_SPACE.true in (
+    let l = c.if-room-le-MEDIUM_FORECAST_PLACES.true in (
       record { own_most = omega arith; room_most = omega arith },
-      ready g c.requires.0.extra c.space_numbers-room.ensures.0 _ _ c.answer_numbers.ensures.0 c.if-out-answer_numbers.false l g.table.bounds.elements_most,
+      ready g c.requires.0.extra c.space_places-room.ensures.0 _ _ c.answer_numbers.ensures.0 c.if-out-answer_numbers.false l g.table.bounds.elements_most,
     )
 
 pub in_largest_space-requires : goal.in_largest_space-requires
 in_largest_space-requires c =
     let g = given c.requires.0 c.requires.1 in
-    ready g c.requires.0.extra c.space_numbers-room.ensures.0 _ _ c.answer_numbers.ensures.0 c.if-out-answer_numbers.false
-    c.space_numbers-room.ensures.1 g.table.bounds.elements_most
+    ready g c.requires.0.extra c.space_places-room.ensures.0 _ _ c.answer_numbers.ensures.0 c.if-out-answer_numbers.false
+    c.space_places-room.ensures.1 g.table.bounds.elements_most

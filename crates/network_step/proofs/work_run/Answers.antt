@@ -5,6 +5,7 @@ use mathlib.Core.List.{List}
 use lib.ListN.{length}
 use mathlib.Core.Path.{◌≡◌, refl, sym, ap, ◌∙◌}
 use native.Mathlib.Omega.{arith}
+use Rattle.method.specs.declared.Figures.{Figures}
 use Rattle.elements.specs.declared.Element.{Element}
 use Rattle.elements.specs.Elements.{element_at}
 use Rattle.elements.specs.Kinds.{tanks, same_kind}
@@ -32,7 +33,7 @@ used h l = omega (arith, l, h.elements)
 
 -- what is known at its turn, where it is one cell
 turn :
-    {table weight bytes observed space start : List ℕ} {s : State} {n m basins i tank g here : ℕ} {from : Reached} {passed : Passed} {ob : Option RatedReading} {met : Bool}
+    {table weight bytes observed : List ℕ} {space start : List Figures} {s : State} {n m basins i tank g here : ℕ} {from : Reached} {passed : Passed} {ob : Option RatedReading} {met : Bool}
     → RunReady table n m basins from weight bytes observed s start
     → length space ≡ length start
     → ReachedIn (table_in table) bytes s (record { element = i; tank = tank; passed = passed; gauges = g }) space

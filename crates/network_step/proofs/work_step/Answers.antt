@@ -1,4 +1,5 @@
 -- `work_step` meets its contract.
+use Rattle.method.specs.declared.Figures.{Figures}
 use Rattle.std.proofs.Common.{rules}
 use Prim.Native.Nat.{ℕ}
 use mathlib.Core.List.{List}
@@ -18,7 +19,7 @@ use Rattle.network_step.proofs.StepLaws.{begun-reached, stepping-done, step-refu
 use Rattle.network_step.proofs.work_step.Goals as goal
 
 module _
-    {table weight bytes observed start : List ℕ} {s : State} {basins : ℕ} {counts : Counts}
+    {table weight bytes observed : List ℕ} {start : List Figures} {s : State} {basins : ℕ} {counts : Counts}
     (h : StepReady table basins weight bytes observed s × Cleared (place_count (table_in table)) start) (c : CountsHeld counts (table_of table)) where
   -- the header's counts
   header : CountedTable table counts.elements counts.gauges
@@ -26,7 +27,7 @@ module _
 
   -- a run that ends before an element of tanks
   turn :
-      {from met : Reached} {space : List ℕ}
+      {from met : Reached} {space : List Figures}
       → length space ≡ length start
       → TanksMet (table_in table) bytes s from met space
       → TanksTurn table counts.elements counts.gauges met weight observed s space basins bytes

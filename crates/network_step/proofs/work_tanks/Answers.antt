@@ -4,6 +4,7 @@ use mathlib.Core.List.{List}
 use mathlib.Core.Path.{◌≡◌, sym, ap, ◌∙◌}
 use native.Mathlib.Omega.{arith}
 use lib.ListN.{get_or}
+use Rattle.method.specs.declared.Figures.{Figures}
 use Rattle.std.specs.Prelude.{Option}
 use Rattle.units.specs.Units.{S}
 use Rattle.elements.specs.declared.Element.{Element}
@@ -25,7 +26,7 @@ use Rattle.network_step.proofs.work_tanks.Goals as goal
 
 -- what the turn of the tanks in a step by a record says of what the code has read
 module _
-    {table weight observed space bytes : List ℕ} {n m basins : ℕ} {met : Reached} {s : State}
+    {table weight observed : List ℕ} {space : List Figures} {bytes : List ℕ} {n m basins : ℕ} {met : Reached} {s : State}
     (q : TanksTurn table n m met weight observed s space basins bytes) where
   seen :
       {here : ℕ} {ob : Option RatedReading}

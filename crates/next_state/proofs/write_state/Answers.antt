@@ -1,6 +1,9 @@
 -- `write_state` meets its contract.
 use Prim.Native.Nat.{◌<◌}
+use mathlib.Core.Path.{refl}
 use native.Mathlib.Omega.{arith}
+use Rattle.method.specs.Inflow.{no_inflow}
+use Rattle.answer_space.specs.Places.{figures_at}
 use Rattle.table.specs.InUse.{table_in}
 use Rattle.elements.specs.Kinds.{basin_of}
 use Rattle.record.proofs.RecordLaws.{kind-read, rain-there}
@@ -20,6 +23,7 @@ put_step-requires c =
     (omega (arith, p.fits.bounds.elements_most), λ e. rain-there _ _ p.kept _ used kind c.loop-i.invariant.1.0.0 e)
 
 pub loop-i-preserved : goal.loop-i-preserved
+unfolding figures_at no_inflow
 loop-i-preserved c =
     let inv = c.loop-i.invariant.1 in
     let used : c.loop-i.i < (table_in c.args.table.now).elements = omega (arith, c.requires.elements) in
@@ -27,7 +31,7 @@ loop-i-preserved c =
       omega arith,
       (
         (count-more basin_of _ _ inv.0.0 c.basin_of-b.ensures.0 (kind-read _ _ used is), omega (arith, inv.0.1, c.basin_of-b.ensures.1)),
-        written-again _ _ _ _ _ used inv.1 is inv.0.0 c.figures_at.ensures c.put_step.ensures,
+        written-again _ _ _ _ _ used inv.1 is inv.0.0 refl c.put_step.ensures,
       ),
     )
 

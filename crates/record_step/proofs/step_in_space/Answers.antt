@@ -2,10 +2,12 @@
 use Prim.Native.Nat.{ℕ, ◌*◌}
 use mathlib.Core.Path.{ap}
 use native.Mathlib.Omega.{arith}
+use Rattle.method.specs.Inflow.{no_inflow}
 use Rattle.record_step.proofs.StepLaws.{passed-as, written-refused, elements-ready, both-written, write-given, spaces-ready}
 use Rattle.record_step.proofs.step_in_space.Goals as goal
 
 pub work_record-requires : goal.work_record-requires
+unfolding no_inflow
 work_record-requires g c =
     let r = c.requires in spaces-ready r.0 _ _ _ r.1.weights r.1.gauges r.1.places
 

@@ -5,9 +5,9 @@ use mathlib.Core.Path.{◌≡◌, refl, sym, ap}
 use native.Mathlib.Omega.{arith}
 use lib.ListN.{length, take}
 use lib.Seq.{length-take-le}
+use Rattle.method.specs.declared.Figures.{Figures}
 use Rattle.table.specs.declared.Counts.{Counts}
 use Rattle.state.specs.States.{State}
-use Rattle.answer_space.proofs.EmptyLaws.{none-at}
 use Prim.{Unit}
 use Rattle.std.specs.Prelude.{Result}
 use Rattle.refusal.specs.declared.Refusal.{Refusal}
@@ -18,9 +18,9 @@ use Rattle.record_step.proofs.step_lent.Goals as goal
 
 -- the part of the space that is worked in
 part-long :
-    {table weight space : List ℕ} {counts : Counts} {s : State}
+    {table weight : List ℕ} {space : List Figures} {counts : Counts} {s : State}
     → LentGiven table counts weight space s
-    → length (take (4 * (counts.elements + counts.extra + 1)) space) ≡ 4 * (counts.elements + counts.extra + 1)
+    → length (take (counts.elements + counts.extra + 1) space) ≡ counts.elements + counts.extra + 1
 part-long {space = space} h =
     length-take-le _ space (omega (arith, h.room, few-places (river-given h.weighed.counted h.fits)))
 
@@ -38,7 +38,7 @@ work_step-requires c =
     let known = p.weighed.counted.counted in (
       work-ready known.table known.basins p.weighed.weights p.fits c.judge_step.ensures c.in_ok-judge_step.was
           (omega (arith, c.judge_step.auto, known.table.bounds.gauges_most)),
-      record { room = omega (arith, c.clear.auto, part-long c.requires, known.held.elements, p.weighed.counted.extra); none = none-at c.clear.ensures },
+      record { room = omega (arith, c.clear.auto, part-long c.requires, known.held.elements, p.weighed.counted.extra); none = c.clear.ensures.at },
     )
 
 -- 16
@@ -51,9 +51,9 @@ returns-in_err-work_step c =
 
 -- what writing the state relies on
 given :
-    {table weight bytes space worked : List ℕ} {counts : Counts} {s : State} {v : Result Unit Refusal}
+    {table weight bytes : List ℕ} {space worked : List Figures} {counts : Counts} {s : State} {v : Result Unit Refusal}
     → LentGiven table counts weight space s
-    → length worked ≡ length (take (4 * (counts.elements + counts.extra + 1)) space)
+    → length worked ≡ length (take (counts.elements + counts.extra + 1) space)
     → RecordWorked v worked (table_in table) bytes s (4 * counts.elements)
     → WriteGiven v table counts.elements counts.extra bytes worked s
 given h size w = write-given (river-given h.weighed.counted h.fits) (omega (arith, size, part-long h)) w

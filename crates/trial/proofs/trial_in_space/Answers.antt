@@ -1,10 +1,12 @@
 -- `trial_in_space` meets its contract.
 use native.Mathlib.Omega.{arith}
+use Rattle.method.specs.Inflow.{no_inflow}
 use Rattle.record_step.proofs.StepLaws.{spaces-ready}
 use Rattle.trial.proofs.TrialLaws.{figures-ready, trial-refused, trial-accepted}
 use Rattle.trial.proofs.trial_in_space.Goals as goal
 
 pub work_record-requires : goal.work_record-requires
+unfolding no_inflow
 work_record-requires g c =
     let r = c.requires in spaces-ready r.0 _ _ _ r.1.weights r.1.gauges r.1.places
 
