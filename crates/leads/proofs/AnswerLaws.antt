@@ -221,3 +221,12 @@ module _
         count = written-refused (answer-refused e);
         figures = λ fs a. absurd (not-both a (answer-refused e));
       })
+
+-- ---- spaces with nothing in them
+
+-- as the code makes them
+pub zeros-ready :
+    {bytes : List ℕ} {n L T : ℕ} {s : State} {own room lent : ℕ}
+    → CopyReady bytes n L T s own room lent
+    → CopyReady bytes n L T s (length {A = ℕ} (replicate own 0)) (length (replicate room no_inflow)) lent × Empty (replicate room no_inflow)
+zeros-ready {own = own} {room = room} h = (rw (length-replicate {A = ℕ} own 0, length-replicate room no_inflow) h, nothing-empty room)

@@ -1,10 +1,14 @@
 -- Laws of the series weight.
 use Prim.Native.Nat.{ℕ, zero, suc, ◌+◌, ◌-◌, ◌*◌, ◌/◌, ◌≤◌, ◌<◌}
-use mathlib.Core.Path.{◌≡◌}
-use native.Mathlib.Nat.{mul-le-mul_left, mul-le-mul_right, div-mul-le_self, lt-div-mul-add, div-le_of_le-mul, div-div-eq-div-mul}
+use mathlib.Core.Path.{◌≡◌, sym}
+use native.Mathlib.Nat.{mul-le-mul_left, mul-le-mul_right, div-mul-le_self, lt-div-mul-add, div-le_of_le-mul, div-eq_of_lt-le, div-div-eq-div-mul}
 use native.Mathlib.Omega.{arith}
 use Rattle.units.specs.Units.{S}
 use Rattle.weighting.specs.Weight.{turned, weight}
+
+-- the quotient by lag, where q is one less than it
+pub quotient-next : (x lag q : ℕ) → q * lag + lag ≤ x → x < q * lag + 2 * lag → q + 1 ≡ x / lag
+quotient-next x lag q low high = sym (div-eq_of_lt-le lag (omega arith) (omega arith))
 
 -- the code's SHARES
 abbrev pub shares : ℕ
