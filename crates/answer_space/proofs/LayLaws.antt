@@ -21,7 +21,7 @@ put-four :
     → set (set (set (set (ys ++ a ∷ b ∷ c ∷ d ∷ rest) (length ys) w) (length ys + 1) x) (length ys + 2) y) (length ys + 3) z
     ≡ ys ++ w ∷ x ∷ y ∷ z ∷ rest
 put-four [] a b c d rest w x y z = refl
-put-four (v ∷ ys) a b c d rest w x y z = 
+put-four (v ∷ ys) a b c d rest w x y z =
     let more = ap (λ (l : List ℕ). v ∷ l) (put-four ys a b c d rest w x y z) in simp unary_clauses (simp unary_clauses at more)
 
 four-more :

@@ -53,6 +53,7 @@ pub fn lay_out(figures: &[Figures], out: &mut [u64])
     requires { 4 * length figures.now ≤ length out.old }
     ensures { out.new ≡ layout figures.now ++ drop (4 * length figures.now) out.old }
 {
+    // (By the number, from which the four places in the lent space are reckoned.)
     for i in 0..figures.len() {
         let f = figures[i];
         out[4 * i] = f.discharge.0;

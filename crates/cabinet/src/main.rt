@@ -10,7 +10,9 @@ ghost use Rattle.table_input.specs.Start.{empty_state};
 use machine::{Next, proceed};
 use method::Figures;
 use progress::{after_read, first_progress};
-use sizes::{FORECAST_PLACES, INPUT_BUFFER, MOST_ELEMENTS, STATE_NUMBERS, TABLE_BYTES, TEXT_BUFFER};
+use sizes::{
+    FORECAST_PLACES, INPUT_BUFFER, MOST_ELEMENTS, STATE_NUMBERS, TABLE_BYTES, TEXT_BUFFER,
+};
 use std::io::{Read, Stdin};
 use text::DigitFours;
 

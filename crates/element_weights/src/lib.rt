@@ -27,6 +27,7 @@ pub fn put_weights(table: &[u8], step: u64, n: usize, weights: &mut [u64])
     requires { Weighable table.now step n × (n ≤ length weights.old) }
     ensures { WeightsHeld (table_in table.now) weights.new }
 {
+    // (By the number: the table is read by it, too.)
     for i in 0..n {
         weights[i] = work_weight(table, step, i);
     }

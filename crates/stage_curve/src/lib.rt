@@ -46,6 +46,7 @@ pub fn look_along(table: &[u8], at: usize, stage: u64) -> CurveLook
     ensures { look_of result ≡ look_on (gauge_from table.now at) stage }
 {
     let mut pieces: usize = 0;
+    // (A loop that counts, since the last top is above every stage: a `for` would need an answer after its end.)
     loop {
         let place = at + 6 + 8 * pieces;
         pieces += 1;
