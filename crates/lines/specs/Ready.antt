@@ -9,9 +9,9 @@ use Rattle.text.specs.Places.{TextPut}
 use Rattle.lines.specs.Ceiling.{FiguresUnderCeiling}
 
 -- four figures
-pub record FiguresReady (text : TextSpace) (f : Figures) : Type 0 where
+pub record FiguresReady (text : TextSpace) (four : Figures) : Type 0 where
   pub room : text.at + 84 ≤ length text.bytes.now
-  pub under : FiguresFit f
+  pub under : FiguresFit four
 
 -- a line, with a start of so many bytes
 pub record LineReady
