@@ -1,7 +1,7 @@
 -- Serves the code: the places of its working space, the figures of an element each.
-use Rattle.std.specs.Prelude.{ℕ, ◌+◌, ◌-◌, ◌*◌, ◌≤◌, ◌<◌, List, ◌≢◌, ◌≡◌, length, get_or, set}
+use Rattle.std.specs.Prelude.{ℕ, ◌-◌, ◌*◌, ◌≤◌, ◌<◌, List, ◌≢◌, ◌≡◌, length, get_or, set}
 use Rattle.sizes.specs.Sizes.{most_places}
-use Rattle.units.specs.Units.{C, grains, thousandths}
+use Rattle.units.specs.Units.{C}
 use Rattle.method.specs.declared.Figures.{Figures}
 use Rattle.method.specs.Figures.{FiguresFit}
 use Rattle.method.specs.Inflow.{no_inflow, joined_inflow}

@@ -8,7 +8,7 @@ use mathlib.Core.List.{List, ◌++◌}
 use mathlib.Core.Path.{◌≡◌, sym, ap, ◌∙◌}
 use native.Mathlib.Nat.{mul-le-mul, mul-le-mul_left, mul-le-mul_right}
 use native.Mathlib.Omega.{arith}
-use lib.ListN.{length, take, drop, length-drop}
+use lib.ListN.{length, take, drop, replicate, length-drop, length-replicate}
 use lib.Seq.{length-take-le, take-append-le, drop-append-le}
 use Rattle.sizes.specs.Sizes.{most_elements, most_leads, answer_numbers}
 use Rattle.refusal.specs.Refusals.{number}
@@ -30,13 +30,15 @@ use Rattle.element_weights.specs.Weights.{WeightsHeld}
 use Rattle.network.specs.Forecast.{lead_figures, lead_numbers}
 use Rattle.network.specs.Answer.{forecast_figures, space_fits, leads_answer}
 use Rattle.method.specs.Figures.{layout}
+use Rattle.method.specs.Inflow.{no_inflow}
 use Rattle.network.specs.Lent.{Lent}
 use Rattle.method.proofs.LayoutLaws.{layout-length}
 use Rattle.network.proofs.LayoutLaws.{by-lead-length}
 use Rattle.network.proofs.LentLaws.{space-refused, space-accepted, ceiling-refused, written-accepted, written-refused, none-copied, all-copied}
-use Rattle.answer_space.specs.Places.{figures_at}
+use Rattle.answer_space.specs.Places.{Empty, figures_at}
+use Rattle.answer_space.proofs.EmptyLaws.{nothing-empty}
 use Rattle.network_leads.specs.Worked.{Given, spare_rows, space_size, LeadsHeld, LeadsWorked}
-use Rattle.leads.specs.Held.{answer_places, answer_size, ForecastGiven, Copied, ForecastHeld}
+use Rattle.leads.specs.Held.{answer_places, answer_size, ForecastGiven, CopyReady, Copied, ForecastHeld}
 use Rattle.leads.proofs.LayoutLaws.{figures-after, answer-laid}
 
 -- ---- what is given, and the numbers that a river needs
@@ -228,5 +230,5 @@ module _
 pub zeros-ready :
     {bytes : List ℕ} {n L T : ℕ} {s : State} {own room lent : ℕ}
     → CopyReady bytes n L T s own room lent
-    → CopyReady bytes n L T s (length {A = ℕ} (replicate own 0)) (length (replicate room no_inflow)) lent × Empty (replicate room no_inflow)
-zeros-ready {own = own} {room = room} h = (rw (length-replicate {A = ℕ} own 0, length-replicate room no_inflow) h, nothing-empty room)
+    → CopyReady bytes n L T s (length {A = ℕ} (replicate own 0)) (length {A = Figures} (replicate room no_inflow)) lent × Empty (replicate room no_inflow)
+zeros-ready {own = own} {room = room} h = (rw (length-replicate {A = ℕ} own 0, length-replicate {A = Figures} room no_inflow) h, nothing-empty room)

@@ -1,10 +1,9 @@
 -- Lists by element and lead.
 use Prim.Native.Nat.{ℕ, zero, suc, ◌*◌}
-use mathlib.Core.List.{List, [], ◌∷◌, ◌++◌}
+use mathlib.Core.List.{[], ◌∷◌}
 use mathlib.Core.Path.{◌≡◌, refl}
 use native.Mathlib.Omega.{arith}
 use lib.ListN.{length, length-append}
-use Rattle.method.specs.declared.Figures.{Figures}
 use Rattle.network.specs.Answer.{listed, by_element_and_lead}
 
 -- how many places the lists have

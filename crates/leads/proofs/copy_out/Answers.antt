@@ -1,7 +1,7 @@
 -- `copy_out` meets its contract.
 use native.Mathlib.Omega.{arith}
 use Rattle.table.specs.InUse.{table_in}
-use Rattle.leads.proofs.AnswerLaws.{answer-size, answer-start, part_room, part_fits, not-copied, copied}
+use Rattle.leads.proofs.AnswerLaws.{answer-size, answer-start, part_fits, not-copied, copied}
 use Rattle.leads.proofs.copy_out.Goals as goal
 
 pub returns-in_err-work_leads : goal.returns-in_err-work_leads
