@@ -2,7 +2,7 @@
 use Prim.{Unit}
 use Rattle.refusal.specs.declared.Refusal.{Refusal}
 use Rattle.refusal.specs.Answers.{answer_of}
-use Rattle.std.specs.Prelude.{ℕ, suc, ◌+◌, ◌*◌, ◌≤◌, ◌<◌, false, List, ◌⊎◌, ◌≢◌, ◌≡◌, length, Result, Ok, None}
+use Rattle.std.specs.Prelude.{ℕ, suc, ◌+◌, ◌≤◌, ◌<◌, false, List, ◌⊎◌, ◌≢◌, ◌≡◌, length, Result, Ok, None}
 use Rattle.sizes.specs.Sizes.{most_leads}
 use Rattle.units.specs.Ceiling.{some_passes, under_ceiling}
 use Rattle.method.specs.declared.Figures.{Figures}

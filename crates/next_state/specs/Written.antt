@@ -1,7 +1,7 @@
 -- Serves the code: what writing the state after a step relies on, and what it leaves. It writes in two parts, first the tanks above the last of
 -- their elements, then the elements; `written-in-parts` of proofs/WriteLaws says that both together are the state after the step.
 use Prim.{Unit}
-use Rattle.std.specs.Prelude.{ℕ, ◌+◌, ◌*◌, ◌≤◌, ◌<◌, List, ◌≡◌, length}
+use Rattle.std.specs.Prelude.{ℕ, ◌+◌, ◌≤◌, ◌<◌, List, ◌≡◌, length}
 use Rattle.sizes.specs.Sizes.{most_places}
 use Rattle.refusal.specs.Answers.{accepted}
 use Rattle.method.specs.declared.Figures.{Figures}
