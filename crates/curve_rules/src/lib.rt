@@ -29,6 +29,7 @@ fn pieces_in_use_fit(table: &[u8], at: usize, count: usize) -> bool
     requires { Counted table.now at count }
     ensures { InUseJudged (curve_at table.now at) result }
 {
+    // (A loop, since each piece is tested with the top before it.)
     let mut below: u64 = 0;
     for j in 0..count {
         let piece = piece_at(table, at + 6 + 8 * j);

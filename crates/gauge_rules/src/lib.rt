@@ -47,6 +47,7 @@ pub fn gauges_fit(table: &[u8], n: usize, m: usize) -> bool
     requires { Versioned table.now × ((n ≤ most_elements) × ((m ≤ most_gauges) × (gauge_place table.now n m ≤ length table.now))) }
     ensures { result ≡ all_below (gauge_fits n (element_at table.now) (gauge_at table.now n)) m }
 {
+    // (A loop, since each gauge is tested with the element of the one before it.)
     let mut above: usize = 0;
     for g in 0..m {
         if !gauge_fits(table, n, g, above) {

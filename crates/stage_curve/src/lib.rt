@@ -28,6 +28,7 @@ fn with_noise(
     requires { (GaugeThere table.now at × GaugeBounds most_elements (gauge_from table.now at)) × RatingFits (answer_of answer) }
     ensures { look_of result ≡ look_by (gauge_from table.now at) (answer_of answer) pieces }
 {
+    // (By cases: of `Result::map` the closure's goal was not proved.)
     let rated = match answer {
         Ok(discharge) => {
             let beta = beta_at(table, at);
