@@ -6,7 +6,7 @@ ghost use Rattle.std.specs.Result.{result_ok};
 ghost use Rattle.elements.specs.Elements.{element_at};
 ghost use Rattle.elements.specs.Kinds.{tanks, kind_of, basin_of, extra_tanks};
 
-use fields::bytes::{whole16, whole32, wide};
+use fields::bytes::{whole16, whole32};
 use units::{Discharge, Variance};
 
 // The kinds of an element. What a kind decides is chosen by a match that names every kind.
@@ -69,7 +69,7 @@ pub fn element_at(table: &[u8], i: usize) -> Element
     let at = 26 * i + 10;
     Element {
         kind: kind_of(table[at]),
-        down: wide(table[at + 1]) as usize,
+        down: usize::from(table[at + 1]),
         lag: whole16(table, at + 2),
         area: whole32(table, at + 4),
         runoff: whole16(table, at + 8),
@@ -104,7 +104,7 @@ pub fn down_at(table: &[u8], i: usize) -> usize
     requires { (i ≤ 1000) × (26 * i + 36 ≤ length table.now) }
     ensures { result ≡ (element_at table.now i).down }
 {
-    wide(table[26 * i + 10 + 1]) as usize
+    usize::from(table[26 * i + 10 + 1])
 }
 
 // The system noise of element i.

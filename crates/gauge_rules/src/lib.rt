@@ -12,7 +12,7 @@ ghost use Rattle.gauge_rules.specs.Judged.{GaugeAfter};
 
 use curve_rules::curve_fits;
 use elements::{Kind, kind_at};
-use fields::bytes::{whole32, wide};
+use fields::bytes::whole32;
 use fields::range::in_range;
 use gauges::{beta_at, element_of, place_of};
 use units::Variance;
@@ -23,7 +23,7 @@ fn gauge_fits(table: &[u8], n: usize, g: usize, above: usize) -> bool
     ensures { result ≡ gauge_fits n (element_at table.now) (gauge_at table.now n) g }
 {
     let at = place_of(table, n, g);
-    let element = wide(table[at]) as usize;
+    let element = usize::from(table[at]);
     if element <= above {
         return false;
     }

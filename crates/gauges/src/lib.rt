@@ -47,7 +47,7 @@ pub fn gauge_size(table: &[u8]) -> usize
     requires { Versioned table.now }
     ensures { result ≡ gauge_size table.now }
 {
-    44 + 2 * wide(table[4]) as usize
+    44 + 2 * usize::from(table[4])
 }
 
 // Where gauge g of a table with n elements starts, counted from 0.
@@ -74,5 +74,5 @@ pub fn element_of(table: &[u8], n: usize, g: usize) -> usize
     requires { GaugePlaced table.now n g }
     ensures { result ≡ (gauge_at table.now n g).element }
 {
-    wide(table[place_of(table, n, g)]) as usize
+    usize::from(table[place_of(table, n, g)])
 }

@@ -75,9 +75,9 @@ pub fn counts_of(table: &[u8]) -> Counts
 {
     Counts {
         step: whole16(table, 5),
-        leads: wide(table[7]) as usize,
-        elements: wide(table[8]) as usize,
-        gauges: wide(table[9]) as usize,
+        leads: usize::from(table[7]),
+        elements: usize::from(table[8]),
+        gauges: usize::from(table[9]),
         basins: 0,
         dams: 0,
         extra: 0,

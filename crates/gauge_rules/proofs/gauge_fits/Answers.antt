@@ -20,10 +20,10 @@ kind_at-requires c =
     (omega (arith, c.if-n-element.false, c.requires.placed.elements), omega (arith, c.if-n-element.false, c.if-element-above.false, elements-before _ _ _ c.requires.placed))
 
 pub returns-then-element-above : goal.returns-then-element-above
-returns-then-element-above c = let j = judged _ _ _ c.requires c.place_of-at.ensures c.wide-element.ensures.0 in search rules
+returns-then-element-above c = let j = judged _ _ _ c.requires c.place_of-at.ensures c.from-element.ensures in search rules
 
 pub returns-then-n-element : goal.returns-then-n-element
-returns-then-n-element c = let j = judged _ _ _ c.requires c.place_of-at.ensures c.wide-element.ensures.0 in search rules
+returns-then-n-element c = let j = judged _ _ _ c.requires c.place_of-at.ensures c.from-element.ensures in search rules
 
 -- the code's test of a kind is the definition's
 dam-equal : (kind : Option Kind) → option_eq (eq-value).it kind dam ≡ same_kind kind dam
@@ -35,7 +35,7 @@ dam-equal (Some Tanks) = refl
 dam-equal None = refl
 
 pub returns-then-eq : goal.returns-then-eq
-returns-then-eq c = let j = judged _ _ _ c.requires c.place_of-at.ensures c.wide-element.ensures.0 in let t = dam-equal c.kind_at.result in search rules
+returns-then-eq c = let j = judged _ _ _ c.requires c.place_of-at.ensures c.from-element.ensures in let t = dam-equal c.kind_at.result in search rules
 
 pub whole32-requires : goal.whole32-requires
 whole32-requires c = omega (arith, (there _ _ _ c.requires c.place_of-at.ensures).whole)
@@ -47,10 +47,10 @@ pub beta_at-requires : goal.beta_at-requires
 beta_at-requires c = there _ _ _ c.requires c.place_of-at.ensures
 
 pub returns-then-not-in_range : goal.returns-then-not-in_range
-returns-then-not-in_range c = let j = judged _ _ _ c.requires c.place_of-at.ensures c.wide-element.ensures.0 in search rules
+returns-then-not-in_range c = let j = judged _ _ _ c.requires c.place_of-at.ensures c.from-element.ensures in search rules
 
 pub returns-then-not-curve_fits : goal.returns-then-not-curve_fits
-returns-then-not-curve_fits c = let j = judged _ _ _ c.requires c.place_of-at.ensures c.wide-element.ensures.0 in search rules
+returns-then-not-curve_fits c = let j = judged _ _ _ c.requires c.place_of-at.ensures c.from-element.ensures in search rules
 
 pub returns : goal.returns
-returns c = let j = judged _ _ _ c.requires c.place_of-at.ensures c.wide-element.ensures.0 in let t = dam-equal c.kind_at.result in search rules
+returns c = let j = judged _ _ _ c.requires c.place_of-at.ensures c.from-element.ensures in let t = dam-equal c.kind_at.result in search rules

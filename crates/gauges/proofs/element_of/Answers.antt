@@ -9,4 +9,4 @@ bounds-table-place_of c = rw c.place_of.ensures (omega (arith, (gauge-there _ _ 
 
 pub returns : goal.returns
 unfolding gauge_at gauge_from
-returns c = rw (← c.place_of.ensures) c.wide.ensures.0
+returns c = rw (← c.place_of.ensures) c.from.ensures

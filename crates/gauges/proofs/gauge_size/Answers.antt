@@ -5,4 +5,4 @@ use Rattle.gauges.proofs.gauge_size.Goals as goal
 
 pub returns : goal.returns
 unfolding table_version
-returns c = rw c.wide.ensures.0 (size-counted _ c.requires)
+returns c = rw c.from.ensures (size-counted _ c.requires)
