@@ -73,28 +73,23 @@ fn step_input(
     requires { StepInputReady table.now i bytes.now b passed }
     ensures { result ≡ step_input table.now i weight bytes.now b passed observation }
 {
-    let Passed { basins, dams } = passed;
     match kind_at(table, i) {
         Some(Kind::Basin) => {
-            let rain = rain_at(bytes, basins);
+            let rain = rain_at(bytes, passed.basins);
             let element = element_at(table, i);
             let inflow = mean_rain_inflow(rain, 1, element.area, element.runoff);
+            let basins = passed.basins + 1;
             StepInput {
                 input: input_of(element, weight, inflow, observation),
-                passed: Passed {
-                    basins: basins + 1,
-                    dams,
-                },
+                passed: Passed { basins, ..passed },
             }
         }
         Some(Kind::Dam) => {
-            let release = release_at(bytes, b, dams);
+            let release = release_at(bytes, b, passed.dams);
+            let dams = passed.dams + 1;
             StepInput {
                 input: input_of(element_at(table, i), weight, release, observation),
-                passed: Passed {
-                    basins,
-                    dams: dams + 1,
-                },
+                passed: Passed { dams, ..passed },
             }
         }
         Some(Kind::Reach | Kind::Tanks) | None => StepInput {
