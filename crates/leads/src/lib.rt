@@ -50,7 +50,6 @@ fn space_places(elements: usize, extra: usize, leads: usize) -> usize
 
 // A forecast from a state that rule 8 accepts, with the weights of the elements and a space lent, in which the answer begins after the places
 // of what leaves the river; what the space holds where the forecast is refused is left open.
-#[inline(never)]
 pub fn forecast_in(
     table: &[u8],
     counts: Counts,
@@ -86,7 +85,8 @@ fn copy_out(
     let needed = answer_numbers(n, leads);
     let from = leads + 1;
     put_weights(table, step, n, &mut *own);
-    work_leads(table, n, leads, &*own, state, &mut *space)?;
+    let worked = work_leads(table, n, leads, &*own, state, &mut *space);
+    worked?;
     lay_out(&space[from..from + n * from], out);
     Ok(needed)
 }

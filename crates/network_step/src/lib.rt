@@ -168,7 +168,8 @@ fn work_run(
         let input = taken.input;
         let element = input.element;
         let before = figures_of(state, i);
-        one_lead::work_step(input, i + 1, element.down, before, &mut *space)?;
+        let worked = one_lead::work_step(input, i + 1, element.down, before, &mut *space);
+        worked?;
         passed = taken.passed;
         g += here;
     }

@@ -155,7 +155,6 @@ pub fn step_from(
 }
 
 // The same with the weights of the elements and a working space lent.
-#[inline(never)]
 pub fn step_lent(
     table: &[u8],
     counts: Counts,

@@ -29,15 +29,18 @@ fn with_noise(
     ensures { look_of result ≡ look_by (gauge_from table.now at) (answer_of answer) pieces }
 {
     // (By cases: of `Result::map` the closure's goal was not proved.)
-    let rated = match answer {
+    match answer {
         Ok(discharge) => {
             let beta = beta_at(table, at);
             let noise = Variance(noise_of(whole32(table, at + 2), beta, discharge.0));
-            Ok(RatedReading { discharge, noise })
+            let rated = Ok(RatedReading { discharge, noise });
+            CurveLook { rated, pieces }
         }
-        Err(refusal) => Err(refusal),
-    };
-    CurveLook { rated, pieces }
+        Err(refusal) => CurveLook {
+            rated: Err(refusal),
+            pieces,
+        },
+    }
 }
 
 // The discharge of a stage on the curve of the accepted gauge at a place with the noise of a reading there, or 14: on the first piece with

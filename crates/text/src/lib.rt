@@ -17,7 +17,7 @@ fn pair_of(v: u32) -> u32
 }
 
 // The digits of 0 to 9,999, four to a word.
-#[derive(Drop)]
+#[derive(Clone, Copy)]
 pub struct DigitFours {
     pub words: [u32; 10000],
     pub ghost digits: { words ≡ fours_below 10000 },

@@ -89,20 +89,20 @@ step_input-taken-requires c =
     input-ready
     (turn c.requires inv.0 inv.1 c.loop-i-test.true c.gauge_here-here.ensures.0 c.observation_here-observation.ensures c.is_tanks.ensures c.if-is_tanks.false)
 
-pub work_step-requires : goal.work_step-requires
-work_step-requires c =
+pub work_step-worked-requires : goal.work_step-worked-requires
+work_step-worked-requires c =
     let inv = c.loop-i.invariant.1 in
     work-ready
     (turn c.requires inv.0 inv.1 c.loop-i-test.true c.gauge_here-here.ensures.0 c.observation_here-observation.ensures c.is_tanks.ensures c.if-is_tanks.false)
     c.step_input-taken.ensures c.figures_of-before.ensures c.add_old_outflow.ensures
 
-pub returns-in_err-work_step : goal.returns-in_err-work_step
-returns-in_err-work_step c =
+pub returns-in_err-worked : goal.returns-in_err-worked
+returns-in_err-worked c =
     let inv = c.loop-i.invariant.1 in
     run-refused _ _ _ _ _ _ _ c.from_residual.ensures.1
     (one-refused
     (turn c.requires inv.0 inv.1 c.loop-i-test.true c.gauge_here-here.ensures.0 c.observation_here-observation.ensures c.is_tanks.ensures c.if-is_tanks.false)
-    c.step_input-taken.ensures c.figures_of-before.ensures c.add_old_outflow.ensures c.work_step.ensures c.in_err-work_step.was)
+    c.step_input-taken.ensures c.figures_of-before.ensures c.add_old_outflow.ensures c.work_step-worked.ensures c.in_err-worked.was)
 
 pub overflow_add-g : goal.overflow_add-g
 overflow_add-g c =
@@ -115,12 +115,12 @@ loop-i-preserved c =
     turn c.requires inv.1.0 inv.1.1 c.loop-i-test.true c.gauge_here-here.ensures.0 c.observation_here-observation.ensures c.is_tanks.ensures c.if-is_tanks.false in (
       omega (arith, inv.0),
       (
-        omega (arith, c.work_step.auto.space, inv.1.0),
+        omega (arith, c.work_step-worked.auto.space, inv.1.0),
         reached-again _ _ _ k.used
             (λ e. k.single (ap (λ (x : Element). x.kind) (sym (element-read _ _ k.used)) ∙ e)) inv.1.1
-            (passed-on k c.step_input-taken.ensures c.figures_of-before.ensures c.add_old_outflow.ensures c.work_step.ensures)
+            (passed-on k c.step_input-taken.ensures c.figures_of-before.ensures c.add_old_outflow.ensures c.work_step-worked.ensures)
             c.gauge_here-here.ensures.0
-            (one-more k c.step_input-taken.ensures c.figures_of-before.ensures c.add_old_outflow.ensures c.work_step.ensures c.in_ok-work_step.was),
+            (one-more k c.step_input-taken.ensures c.figures_of-before.ensures c.add_old_outflow.ensures c.work_step-worked.ensures c.in_ok-worked.was),
       ),
     )
 

@@ -1,25 +1,26 @@
 -- `judge_elements` meets its contract.
 use Prim.Native.Nat.{ℕ, ◌+◌, ◌-◌, ◌≤◌}
-use mathlib.Core.Bool.{true}
+use mathlib.Core.Bool.{Bool, true, false, ◌&&◌}
 use mathlib.Core.Path.{◌≡◌, refl, sym, ap, ◌∙◌}
 use native.Mathlib.Omega.{arith}
 use Rattle.std.proofs.Common.{rules}
 use Rattle.std.specs.Prelude.{Option, Some, None}
 use Rattle.std.proofs.lemmas.Result.{err_from_is_err_and}
 use Rattle.refusal.specs.declared.Refusal.TheVariants.{ElementField}
+use Rattle.fields.specs.Ranges.{all_below}
 use Rattle.fields.proofs.RangeLaws.{all_none, all_more, all-fails}
 use Rattle.elements.specs.declared.Kind.{Kind}
 use Rattle.elements.specs.declared.Kind.TheVariants.{Basin, Reach, Dam, Tanks}
 use Rattle.elements.specs.declared.Element.{Element}
 use Rattle.elements.specs.Elements.{element_at}
 use Rattle.elements.specs.Kinds.{by_kind, basin_of, dam_of, extra_tanks}
-use Rattle.elements.specs.Rules.{element_fits}
+use Rattle.elements.specs.Rules.{element_fits, down_fits}
 use Rattle.element_rules.specs.Judged.{judged}
 use Rattle.element_rules.proofs.JudgedLaws.{refused-said, kept-said, no-extra, extra-counted}
 use Rattle.table.specs.Tables.{table_of}
 use Rattle.table.proofs.CountLaws.{count_none, count-more, basins-most, dams-most, extra-none, extra-more}
 use Rattle.table_reader.proofs.judge_elements.Goals as goal
-use Rattle.table_reader.proofs.judge_elements.Goals.{in-Basin, in-Reach, in-Dam, in-Tanks}
+use Rattle.table_reader.proofs.judge_elements.Goals.{in-Basin, in-Reach, in-Dam, in-Tanks, then-not-down_fits, else-not-down_fits}
 
 -- an element that keeps rule 5, and what it adds to what is counted
 record Adds (step : ℕ) (e : Element) (b d x : ℕ) : Type 0 where
@@ -96,6 +97,19 @@ overflow_add-extra c =
     let some : c.judge_element.result ≡ Some c.in_ok-kind.kind = grind arith in
     omega (arith, c.extra_at-extra.ensures, extra-counted _ _ is (rw c.in-Tanks.is at some))
 
+joined-true : (all one : Bool) → one ≡ true → all ≡ (all && one)
+joined-true true one e = sym e
+joined-true false one e = refl
+
+later :
+    (c : goal.Joined-not-down_fits)
+    → c.if-not-down_fits.later ≡ all_below (down_fits c.args.n (element_at c.args.table.now)) (c.loop-i.i + 1)
+later c =
+    elim c.if-not-down_fits.branch [
+      | then-not-down_fits w ↦ w.later-is ∙ sym (all-fails _ _ _ (omega arith) (sym c.down_fits.ensures ∙ w.if-not-down_fits.true))
+      | else-not-down_fits w ↦ w.later-is ∙ (joined-true _ _ w.if-not-down_fits.false ∙ all_more _ _ c.loop-i.invariant.1.1.0 c.down_fits.ensures)
+    ]
+
 pub loop-i-preserved : goal.loop-i-preserved
 unfolding table_of
 loop-i-preserved c =
@@ -124,6 +138,6 @@ loop-i-preserved c =
       ),
       (
         sym (all_more _ _ (sym inv.1.0) (sym added.by.fits)),
-        (all_more _ _ inv.1.1.0 c.down_fits-later.ensures, (basins, (dams, extra))),
+        (later c, (basins, (dams, extra))),
       ),
     )
